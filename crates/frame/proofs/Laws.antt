@@ -1,0 +1,120 @@
+-- Laws of bodies: where each part of a body stands, and what the stores of a writer make.
+use mathlib.Core.Path.{_≡_, refl, sym, ap, _∙_}
+use mathlib.Core.Bool.{Bool, true, false}
+use mathlib.Core.List.{List, [], _∷_, _++_, append-assoc, append-nil}
+use Prim.Native.Nat.{ℕ, _+_, _-_, _≤_, _<_}
+use native.Mathlib.Omega.{arith}
+use lib.Dec.{eqb, ltb}
+use lib.ListN.{length, take, drop, length-append, length-drop, drop-of-length-le}
+use lib.Seq.{take-at, drop-at, take-all}
+use borrow.Author.Tests.{lt-ltb, le-ltb}
+use Rattle.octets.specs.Octets.{part, put, num, oct}
+use Rattle.octets.specs.Scan.{if_then_else_}
+use Rattle.octets.proofs.Laws.{put-put, part-add}
+use Rattle.groups.specs.Groups.{scalarLength, elementLength, commitLength, stored}
+use Rattle.frame.specs.declared.Written.{Written}
+use Rattle.frame.specs.declared.Written.the-variants.{Length, Shape, Short}
+use Rattle.frame.specs.Frame.{tokenOf, scalarOf, elementOf, commitOf, head, body}
+use Rattle.frame.specs.Writing.{Drawn, Octets, Outside, written, leaves, Writes}
+
+-- ---- parts
+
+-- what stands between two lists
+pub part-mid : (p v q : List ℕ) (at n : ℕ) → length p ≡ at → length v ≡ n → part (p ++ (v ++ q)) at n ≡ v
+unfolding part
+part-mid p v q at n e f = rw (drop-at p (v ++ q) at e) (take-at v q n f)
+
+-- nothing stands past the end, and a part ends there
+pub part-past : (s : List ℕ) (at n : ℕ) → length s ≤ at → part s at n ≡ []
+unfolding part
+part-past s at n h = rw (drop-of-length-le s {i = at} h) (none n)
+  where
+    none : (n : ℕ) → take {A = ℕ} n [] ≡ []
+    none n = take-all n [] (omega arith)
+
+pub part-rest : (s : List ℕ) (at n : ℕ) → at ≤ length s → length s - at ≤ n → part s at n ≡ part s at (length s - at)
+unfolding part
+part-rest s at n h k =
+    let e : length (drop at s) ≡ length s - at = length-drop at s in
+    take-all n (drop at s) (omega arith) ∙ sym (take-all (length s - at) (drop at s) (omega arith))
+
+-- what the functions that hand parts out answer
+module _ (s : List ℕ) (n : ℕ) where
+  pub token-past : length s < 8 → take (length s - length s) (drop (length s) s) ≡ tokenOf s n
+  unfolding tokenOf part
+  token-past h = part-past s (length s) (length s - length s) (omega arith) ∙ sym (part-past s 8 n (omega arith))
+
+  pub token-rest : 8 ≤ length s → length s - 8 < n → take (length s - 8) (drop 8 s) ≡ tokenOf s n
+  unfolding tokenOf part
+  token-rest h k = sym (part-rest s 8 n h (omega arith))
+
+  pub token-whole : take (8 + n - 8) (drop 8 s) ≡ tokenOf s n
+  unfolding tokenOf part
+  token-whole = let e : 8 + n - 8 ≡ n = omega arith in rw e
+
+-- scalar and element are one part
+pub commit-is : (s : List ℕ) (g t : ℕ) → commitOf s g t ≡ part s (8 + t) (commitLength g)
+unfolding commitOf scalarOf elementOf commitLength
+commit-is s g t = sym (part-add s (8 + t) (scalarLength g) (elementLength g))
+
+module _ (s : List ℕ) (g t m : ℕ) (r : List ℕ) (e : m ≡ commitLength g) where
+  pub commit-past : length s < 8 + t → r ≡ stored (part s (length s) 0) → r ≡ stored (commitOf s g t)
+  commit-past h p = p ∙ ap stored (part-past s (length s) 0 (omega arith) ∙ sym (part-past s (8 + t) (commitLength g) (omega arith)) ∙ sym (commit-is s g t))
+
+  pub commit-rest : 8 + t ≤ length s → length s - (8 + t) < m → r ≡ stored (part s (8 + t) (length s - (8 + t))) → r ≡ stored (commitOf s g t)
+  commit-rest h k p = p ∙ ap stored (sym (part-rest s (8 + t) (commitLength g) h (omega arith)) ∙ sym (commit-is s g t))
+
+  pub commit-whole : r ≡ stored (part s (8 + t) m) → r ≡ stored (commitOf s g t)
+  commit-whole p = p ∙ ap stored (ap (part s (8 + t)) e ∙ sym (commit-is s g t))
+
+-- ---- where each part of a body stands
+
+pub length-head : (a b c : ℕ) → length (head a b c) ≡ 8
+unfolding head oct
+length-head a b c = refl
+
+pub length-body : (a b c : ℕ) (t r : List ℕ) → length (body a b c t r) ≡ 8 + length t + length r
+unfolding body
+length-body a b c t r = simp length-append (omega (arith, length-head a b c))
+
+-- ---- stores
+
+store-next : (s t u v w : List ℕ) (k : ℕ) → length v ≡ k → k + length w ≤ length s → t ≡ put s 0 v → u ≡ put t k w → u ≡ put s 0 (v ++ w)
+store-next s t u v w k e h p q =
+    let z : 0 + length v ≡ k = omega arith in
+    q ∙ ap (λ (x : List ℕ). put x k w) p ∙ ap (λ (j : ℕ). put (put s 0 v) j w) (sym z) ∙ put-put s 0 v w (omega arith)
+
+pub head-law : (a b c : ℕ) (s t u v w : List ℕ) → 8 ≤ length s → t ≡ put s 0 (oct 2 3) → u ≡ put t 2 (oct 2 a) → v ≡ put u 4 (oct 2 b) → w ≡ put v 6 (oct 2 c) → w ≡ put s 0 (head a b c)
+unfolding head oct
+head-law a b c s t u v w h p q r e =
+    store-next s v w ((oct 2 3 ++ oct 2 a) ++ oct 2 b) (oct 2 c) 6 refl (omega arith)
+    (store-next s u v (oct 2 3 ++ oct 2 a) (oct 2 b) 4 refl (omega arith)
+    (store-next s t u (oct 2 3) (oct 2 a) 2 refl (omega arith) p q) r) e
+
+-- ---- a writer's outcome
+
+module _ (d : Drawn) (s : List ℕ) where
+  pub outside : d ≡ Outside → Writes d s s Shape
+  unfolding written leaves
+  outside e = rw e (record { answers = refl; left-as = refl })
+
+pub drawn : (d e : Drawn) (s t : List ℕ) (r : Written) → d ≡ e → Writes e s t r → Writes d s t r
+drawn d e s t r p w = rw p w
+
+module _ (a b c : ℕ) (t r : List ℕ) (s : List ℕ) where
+  pub too-long : length s < 8 + length t + length r → Writes (Octets (body a b c t r)) s s Short
+  unfolding written leaves
+  too-long h =
+      let q : ltb (length s) (length (body a b c t r)) ≡ true = lt-ltb (length s) (length (body a b c t r)) (omega (arith, length-body a b c t r)) in
+      record { answers = rw q; left-as = rw q }
+
+  pub all-stored : (x y z : List ℕ) (n : ℕ) → 8 + length t + length r ≤ length s → n ≡ 8 + length t + length r → x ≡ put s 0 (head a b c) → y ≡ put x 8 t → z ≡ put y (8 + length t) r → Writes (Octets (body a b c t r)) s z (Length n)
+  unfolding written leaves body
+  all-stored x y z n h m p q e =
+      let l : length (head a b c ++ (t ++ r)) ≡ 8 + length t + length r = length-body a b c t r in
+      let o : ltb (length s) (length (head a b c ++ (t ++ r))) ≡ false = le-ltb (length s) (length (head a b c ++ (t ++ r))) (omega arith) in
+      let k : length (head a b c ++ t) ≡ 8 + length t = simp length-append (omega (arith, length-head a b c)) in
+      let w : z ≡ put s 0 (head a b c ++ (t ++ r)) =
+      store-next s y z (head a b c ++ t) r (8 + length t) k (omega arith) (store-next s x y (head a b c) t 8 (length-head a b c) (omega arith) p q) e
+      ∙ ap (put s 0) (append-assoc (head a b c) t r) in
+      record { answers = rw o (ap Length (m ∙ sym l)); left-as = rw o w }

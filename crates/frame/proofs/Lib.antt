@@ -1,0 +1,7 @@
+-- Laws of `frame`.
+pub mod Laws
+pub mod Reading
+pub mod Drawing
+pub mod Shapes
+pub mod RoundTrip
+pub mod Wrote

@@ -1,0 +1,58 @@
+-- `frame::token_of` meets its contract: each branch by its law of Laws.
+use Rattle.frame.proofs.Laws.{token-past, token-rest, token-whole}
+use borrow.Author.Needs.{needs}
+use Rattle.frame.proofs.token_of.Statement.{statement}
+use Rattle.frame.proofs.token_of.Tie as tie
+
+sub-result : tie.Need-sub-result
+sub-result c = search needs
+
+part-result-start : tie.Need-part-result-start
+part-result-start c = search needs
+
+part-result-end : tie.Need-part-result-end
+part-result-end c = search needs
+
+returns : tie.Need-returns
+returns c = token-past _ _ (c .before .if1 .taken)
+
+part-result-start-2 : tie.Need-part-result-start-2
+part-result-start-2 c = search needs
+
+part-result-end-2 : tie.Need-part-result-end-2
+part-result-end-2 c = search needs
+
+returns-2 : tie.Need-returns-2
+returns-2 c = token-rest _ _ (c .before .before .if1 .left) (c .before .if2 .taken)
+
+add-end : tie.Need-add-end
+add-end c = search needs
+
+sub-result-2 : tie.Need-sub-result-2
+sub-result-2 c = search needs
+
+part-result-start-3 : tie.Need-part-result-start-3
+part-result-start-3 c = search needs
+
+part-result-end-3 : tie.Need-part-result-end-3
+part-result-end-3 c = search needs
+
+returns-3 : tie.Need-returns-3
+returns-3 c = token-whole _ _
+
+pub token-of-spec : {M : Type 1} → statement M
+token-of-spec =
+    tie.close
+    (tie.spec
+    sub-result
+    part-result-start
+    part-result-end
+    returns
+    part-result-start-2
+    part-result-end-2
+    returns-2
+    add-end
+    sub-result-2
+    part-result-start-3
+    part-result-end-3
+    returns-3)

@@ -1,0 +1,3 @@
+-- What the contracts of `frame` cite.
+pub mod Frame
+pub mod Writing
