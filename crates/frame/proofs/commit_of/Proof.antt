@@ -1,4 +1,4 @@
--- `frame::commit_of` meets its contract: each branch by its law of Laws.
+-- `frame::commit_of` meets its contract: its answers by laws of Laws.
 use native.Mathlib.Omega.{arith}
 use Rattle.frame.proofs.Laws.{commit-past, commit-rest, commit-whole}
 use borrow.Author.Needs.{needs}

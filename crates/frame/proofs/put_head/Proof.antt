@@ -1,4 +1,4 @@
--- `frame::put_head` meets its contract: each branch by its law of Laws.
+-- `frame::put_head` meets its contract: its answers by laws of Laws.
 use Rattle.frame.proofs.Laws.{head-law}
 use borrow.Author.Needs.{needs}
 use Rattle.frame.proofs.put_head.Statement.{statement}

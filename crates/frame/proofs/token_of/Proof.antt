@@ -1,4 +1,4 @@
--- `frame::token_of` meets its contract: each branch by its law of Laws.
+-- `frame::token_of` meets its contract: its answers by laws of Laws.
 use Rattle.frame.proofs.Laws.{token-past, token-rest, token-whole}
 use borrow.Author.Needs.{needs}
 use Rattle.frame.proofs.token_of.Statement.{statement}

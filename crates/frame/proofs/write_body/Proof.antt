@@ -1,4 +1,4 @@
--- `frame::write_body` meets its contract: each branch by its law of Laws.
+-- `frame::write_body` meets its contract: its answers by laws of Laws.
 use mathlib.Core.Path.{refl}
 use native.Mathlib.Omega.{arith}
 use Rattle.frame.proofs.Laws.{too-long, all-stored}

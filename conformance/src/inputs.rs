@@ -1,0 +1,455 @@
+//! Inputs at random: tables of the form and with a fault, frames of every shape, calls with right and damaged arguments.
+//! What they are made from is drawn from a small pool, so that equal commits, known peers and near deadlines are common.
+
+use crate::interface::Call;
+use crate::plain::frame::{commit_len, scalar_len, COMMIT as COMMIT_FRAME, CONFIRM, GROUP_REFUSED, TOKEN_REQUIRED, VALUE};
+use crate::plain::octets::{get16, get32, put16, put32, Address};
+use crate::plain::peer::{at, Peer, RECORD};
+use crate::plain::table::{slots_for, Groups, Settings, COMMIT, HEADER, HIGHEST_THRESHOLD, SLOTS, TOKEN};
+use crate::random::Random;
+
+/// Every list of groups.
+pub const LISTS: [Groups; 4] = [
+    Groups { count: 1, list: [19, 0] },
+    Groups { count: 1, list: [20, 0] },
+    Groups { count: 2, list: [19, 20] },
+    Groups { count: 2, list: [20, 19] },
+];
+
+/// What tables and calls are made from.
+pub struct Pool {
+    pub own: Address,
+    pub groups: Groups,
+    pub addresses: Vec<Address>,
+    commits: Vec<[u8; COMMIT]>,
+    tokens: Vec<[u8; 32]>,
+    pub time: u32,
+    /// Of a hundred arguments, how many are damaged.
+    pub damage: usize,
+}
+
+impl Pool {
+    pub fn new(random: &mut Random) -> Pool {
+        let own = individual(random);
+        let mut commits: Vec<[u8; COMMIT]> = (0..3).map(|_| random.array()).collect();
+        // One with the scalar of another, one with its element, one of zeros.
+        let mut like = commits[0];
+        random.fill(&mut like[scalar_len(19)..]);
+        commits.push(like);
+        let mut like = commits[0];
+        random.fill(&mut like[..scalar_len(19)]);
+        commits.push(like);
+        commits.push([0; COMMIT]);
+        let mut tokens: Vec<[u8; 32]> = (0..2).map(|_| random.array()).collect();
+        let mut like = tokens[0];
+        like[random.below(32)] ^= 1 << random.below(8);
+        tokens.push(like);
+        Pool {
+            own,
+            groups: *random.pick(&LISTS),
+            addresses: addresses(random, own),
+            commits,
+            tokens,
+            time: [0, u32::MAX - 60, 1 << 31, random.number32()][random.below(4)],
+            damage: *random.pick(&[0, 0, 1, 5, 30]),
+        }
+    }
+
+    pub fn with_damage(self, damage: usize) -> Pool {
+        Pool { damage, ..self }
+    }
+
+    fn commit(&self, random: &mut Random, group: u16) -> Vec<u8> {
+        random.pick(&self.commits)[..commit_len(group)].to_vec()
+    }
+
+    fn stored(&self, random: &mut Random, group: u16) -> [u8; COMMIT] {
+        let mut stored = [0; COMMIT];
+        let commit = self.commit(random, group);
+        stored[..commit.len()].copy_from_slice(&commit);
+        stored
+    }
+
+    /// A group that the table lists.
+    fn listed(&self, random: &mut Random) -> u16 {
+        *random.pick(self.groups.listed())
+    }
+
+    fn damaged(&self, random: &mut Random) -> bool {
+        random.percent(self.damage)
+    }
+
+    /// A reading of the clock near a deadline of the table, or anywhere.
+    fn now(&self, random: &mut Random, table: &[u8]) -> u32 {
+        let near = random.below(5) as u32;
+        match random.below(8) {
+            0 => random.number32(),
+            1..=3 => self.time.wrapping_add(random.below(6000) as u32),
+            4 => self.deadline(random, table).wrapping_add(near).wrapping_sub(2),
+            5 => self.deadline(random, table).wrapping_add(near + (1 << 31)).wrapping_sub(2),
+            _ => self.deadline(random, table).wrapping_add(random.below(100) as u32),
+        }
+    }
+
+    fn deadline(&self, random: &mut Random, table: &[u8]) -> u32 {
+        match some_record(random, table) {
+            Some(octets) => get32(octets, *random.pick(&[at::T0, at::T1])),
+            None => self.time,
+        }
+    }
+
+    /// The address of a record, one without a record, or one that is not usable.
+    fn address(&self, random: &mut Random, table: &[u8]) -> Address {
+        if self.damaged(random) {
+            let mut address = *random.pick(&self.addresses);
+            match random.below(4) {
+                0 => address = self.own,
+                1 => address = [0; 6],
+                2 => address[0] |= 1,
+                _ => address[random.below(6)] ^= 1 << random.below(8),
+            }
+            return address;
+        }
+        match some_record(random, table) {
+            Some(octets) if random.percent(75) => *Peer(octets).address(),
+            _ => *random.pick(&self.addresses),
+        }
+    }
+
+    fn fresh(&self, random: &mut Random) -> Vec<u8> {
+        let mut fresh: Vec<u8> = self.groups.listed().iter().flat_map(|&group| self.stored(random, group)).collect();
+        if self.damaged(random) {
+            match random.below(5) {
+                0 => fresh.clear(),
+                1 => fresh.truncate(fresh.len() - 1),
+                2 => fresh.push(0),
+                3 => fresh.resize(*random.pick(&[COMMIT, 2 * COMMIT, 3 * COMMIT]), 0),
+                _ => {
+                    let place = random.below(fresh.len());
+                    fresh[place] ^= 1 << random.below(8);
+                }
+            }
+        }
+        fresh
+    }
+
+    fn expected(&self, random: &mut Random) -> Vec<u8> {
+        let mut expected = random.pick(&self.tokens).to_vec();
+        if self.damaged(random) {
+            expected.resize(*random.pick(&[0, 1, 31, 33, 64]), 7);
+        }
+        expected
+    }
+
+    fn verified(&self, random: &mut Random) -> u8 {
+        match self.damaged(random) {
+            true => *random.pick(&[2, 3, 128, 255]),
+            false => u8::from(random.percent(70)),
+        }
+    }
+
+    fn token(&self, random: &mut Random) -> Vec<u8> {
+        match random.below(20) {
+            0..=6 => Vec::new(),
+            7..=14 => random.pick(&self.tokens).to_vec(),
+            15 => {
+                let length = random.within(1, 31);
+                random.pick(&self.tokens)[..length].to_vec()
+            }
+            16 => [&random.pick(&self.tokens)[..], &[0]].concat(),
+            17 => vec![7; *random.pick(&[1, 31, 33, 48, 255, TOKEN])],
+            _ => {
+                let length = random.within(0, TOKEN);
+                random.octets(length)
+            }
+        }
+    }
+
+    /// A frame of any shape, or of none.
+    pub fn frame(&self, random: &mut Random, table: &[u8]) -> Vec<u8> {
+        let group = match random.below(20) {
+            0 => *random.pick(&[0, 18, 21, 65535, 19 + 256, 20 + 256, 19 * 256]),
+            1 => *random.pick(&[19, 20]),
+            _ => self.listed(random),
+        };
+        let mut frame = match random.below(20) {
+            0..=8 => front(COMMIT_FRAME, 0, group, [self.token(random), self.commit(random, group)].concat()),
+            9..=12 => front(CONFIRM, 0, self.counter(random, table), random.octets(VALUE)),
+            13..=14 => {
+                let token = self.token(random);
+                front(COMMIT_FRAME, TOKEN_REQUIRED, group, if token.is_empty() { vec![7] } else { token })
+            }
+            15..=16 => front(COMMIT_FRAME, GROUP_REFUSED, group, Vec::new()),
+            17 => {
+                let rest = random.below(200);
+                front(COMMIT_FRAME, 0, *random.pick(&[0, 18, 21, 275, 65535]), random.octets(rest))
+            }
+            _ => {
+                let rest = random.below(60);
+                front(
+                    *random.pick(&[1, 2]),
+                    *random.pick(&[1, 13, 52, 75, 78, 255, 256, 76 * 256, 77 * 256, 65535]),
+                    group,
+                    random.octets(rest),
+                )
+            }
+        };
+        if self.damaged(random) {
+            damage_frame(random, &mut frame);
+        }
+        frame
+    }
+
+    /// A counter near the Rc of a record, or at the edges.
+    fn counter(&self, random: &mut Random, table: &[u8]) -> u16 {
+        match some_record(random, table) {
+            Some(octets) if random.percent(60) => Peer(octets).rc().wrapping_add(*random.pick(&[0, 1, 2, 65535])),
+            _ => *random.pick(&[0, 1, 2, 3, 255, 256, 65534, 65535]),
+        }
+    }
+
+    /// A call of any kind on this table.
+    pub fn call(&self, random: &mut Random, table: &[u8]) -> Call {
+        match random.below(40) {
+            0 => self.initialize(random),
+            1..=4 => Call::Initiate { address: self.address(random, table), now: self.now(random, table), fresh: self.fresh(random) },
+            5 => Call::Kill { address: self.address(random, table) },
+            6..=11 => Call::Expire { now: self.now(random, table) },
+            12..=14 => self.write_parts(random),
+            15..=17 => self.write_record(random, table),
+            18..=20 => Call::Read { frame: self.frame(random, table) },
+            _ => self.receive(random, table),
+        }
+    }
+
+    pub fn receive(&self, random: &mut Random, table: &[u8]) -> Call {
+        Call::Receive {
+            address: self.address(random, table),
+            now: self.now(random, table),
+            frame: self.frame(random, table),
+            fresh: self.fresh(random),
+            expected: self.expected(random),
+            verified: self.verified(random),
+        }
+    }
+
+    pub fn initialize(&self, random: &mut Random) -> Call {
+        let threshold = *random.pick(&[0, 1, 2, 5, HIGHEST_THRESHOLD]);
+        let mut own = self.own;
+        let mut settings = Settings { groups: self.groups, threshold }.octets();
+        if self.damaged(random) {
+            match random.below(7) {
+                0 => own = [0; 6],
+                1 => own[0] |= 1,
+                2 => settings[0] = *random.pick(&[0, 1, 2, 3, 255]),
+                3 => put16(&mut settings, *random.pick(&[2, 4]), *random.pick(&[0, 18, 19, 20, 21, 275])),
+                4 => put16(&mut settings, 8, *random.pick(&[64, 65, 256, 320, 65535])),
+                5 => settings[*random.pick(&[1, 6, 7, 10, 11, 12, 13, 14, 15])] = random.octet(),
+                _ => settings = random.array(),
+            }
+        }
+        Call::Initialize { own, settings }
+    }
+
+    fn write_parts(&self, random: &mut Random) -> Call {
+        let mut group = if random.percent(10) { random.number16() } else { self.listed(random) };
+        let (mut sequence, mut status, mut counter) = (COMMIT_FRAME, 0, 0);
+        let (mut token, mut rest) = (Vec::new(), Vec::new());
+        match random.below(4) {
+            0 => (token, rest) = (self.token(random), self.commit(random, group)),
+            1 => (status, token) = (TOKEN_REQUIRED, self.token(random)),
+            2 => status = GROUP_REFUSED,
+            _ => (sequence, group, counter, rest) = (CONFIRM, 0, random.number16(), random.octets(VALUE)),
+        }
+        if self.damage > 0 && random.percent(40) {
+            match random.below(7) {
+                0 => sequence = *random.pick(&[0, 1, 2, 3, 257, 258]),
+                1 => status = *random.pick(&[0, 1, 52, 76, 77, 332, 65535]),
+                2 => group = *random.pick(&[0, 19, 20, 21, 275]),
+                3 => counter = *random.pick(&[0, 1, 256, 65535]),
+                4 => token = vec![9; *random.pick(&[0, 1, 32, 255, 256, 257, 300])],
+                5 => rest.push(1),
+                _ => {
+                    rest.pop();
+                }
+            }
+        }
+        let length = 8 + token.len() + rest.len();
+        Call::WriteParts { sequence, status, group, counter, token, rest, room: self.room(random, length) }
+    }
+
+    fn write_record(&self, random: &mut Random, table: &[u8]) -> Call {
+        let sequence = if self.damaged(random) { *random.pick(&[0, 3, 257, 258, 65535]) } else { *random.pick(&[1, 2]) };
+        let value = if self.damaged(random) { *random.pick(&[0, 31, 33]) } else { VALUE };
+        let address = self.address(random, table);
+        let length = match record_of(table, &address) {
+            Some(octets) if sequence == 1 => 8 + usize::from(get16(octets, at::TOKEN_LEN)) + commit_len(Peer(octets).group()),
+            _ => 8 + VALUE,
+        };
+        Call::WriteRecord { address, sequence, value: random.octets(value), room: self.room(random, length) }
+    }
+
+    /// The length of an out buffer for a frame of this length.
+    fn room(&self, random: &mut Random, length: usize) -> usize {
+        match random.below(10) {
+            0..=3 => length,
+            4 => length - 1,
+            5 => length + 1,
+            6 => random.below(length + 1),
+            _ => length + random.below(100),
+        }
+    }
+
+    /// A table of the form, with anything in it that the form allows.
+    pub fn sound_table(&self, random: &mut Random, slots: usize) -> Vec<u8> {
+        let mut table = vec![0; HEADER + RECORD * slots];
+        put16(&mut table, 0, slots as u16);
+        put16(&mut table, 6, RECORD as u16);
+        put16(&mut table, 8, HEADER as u16);
+        table[16..22].copy_from_slice(&self.own);
+        table[22] = self.groups.count;
+        put16(&mut table, 24, self.groups.list[0]);
+        put16(&mut table, 26, self.groups.list[1]);
+        let filled = *random.pick(&[0, 30, 60, 90, 100]);
+        let mut addresses = self.addresses.clone();
+        for octets in table[HEADER..].as_chunks_mut::<RECORD>().0 {
+            if random.percent(filled) && !addresses.is_empty() {
+                let address = addresses.swap_remove(random.below(addresses.len()));
+                self.sound_record(random, octets, &address);
+            }
+        }
+        let (in_use, open) = counts(&table);
+        put16(&mut table, 2, in_use);
+        put16(&mut table, 4, open);
+        let near = [open, open + 1, open.saturating_sub(1), 0, 5, HIGHEST_THRESHOLD];
+        let threshold = (*random.pick(&near)).min(HIGHEST_THRESHOLD);
+        put16(&mut table, 28, threshold);
+        table
+    }
+
+    fn sound_record(&self, random: &mut Random, octets: &mut [u8; RECORD], address: &Address) {
+        octets[at::IN_USE] = 1;
+        octets[at::ADDRESS..at::STATE].copy_from_slice(address);
+        let (state, link) = *random.pick(&[(0, true), (1, false), (2, false), (1, true), (2, true)]);
+        if state != 0 {
+            let group = self.listed(random);
+            let sync = *random.pick(&[0, 1, 4, 5, 6]);
+            octets[at::STATE] = state;
+            octets[at::SYNC] = sync;
+            put16(octets, at::GROUP, group);
+            put32(octets, at::T0, self.time.wrapping_add(random.below(3000) as u32));
+            octets[at::OWN..at::PEER].copy_from_slice(&self.stored(random, group));
+            let token = self.token(random);
+            put16(octets, at::TOKEN_LEN, token.len() as u16);
+            octets[at::TOKEN..at::TOKEN + token.len()].copy_from_slice(&token);
+            if state == 1 {
+                let others = ((1 << self.groups.count) - 1) & !(1 << self.groups.place(group));
+                octets[at::REJECTED] = random.octet() & others;
+            } else {
+                put16(octets, at::SC, u16::from(sync) + 1);
+                octets[at::PEER..at::TOKEN].copy_from_slice(&self.stored(random, group));
+            }
+        }
+        if link {
+            let group = self.listed(random);
+            octets[at::LINK] = 1;
+            octets[at::SUPERSEDED] = random.below(2) as u8;
+            octets[at::LINK_SYNC] = *random.pick(&[0, 1, 4, 5, 6]);
+            put16(octets, at::LINK_GROUP, group);
+            put16(octets, at::RC, *random.pick(&[0, 1, 2, 255, 256, 65534, 65535]));
+            let t1 = self.time.wrapping_add(random.below(3000) as u32).wrapping_add(*random.pick(&[0, 86_400_000]));
+            put32(octets, at::T1, t1);
+            octets[at::LINK_OWN..at::LINK_PEER].copy_from_slice(&self.stored(random, group));
+            octets[at::LINK_PEER..].copy_from_slice(&self.stored(random, group));
+        }
+    }
+}
+
+/// A number of slots: mostly few.
+pub fn slots(random: &mut Random) -> usize {
+    match random.below(40) {
+        0..=15 => 1,
+        16..=29 => random.within(2, 4),
+        30..=37 => random.within(5, 12),
+        38 => random.within(13, SLOTS),
+        _ => SLOTS,
+    }
+}
+
+fn individual(random: &mut Random) -> Address {
+    let mut address: Address = random.array();
+    address[0] &= 0xfe;
+    address[5] |= 1;
+    address
+}
+
+/// More addresses than slots, all usable and unlike each other: neighbours of our own, and others that differ in one place.
+fn addresses(random: &mut Random, own: Address) -> Vec<Address> {
+    let mut addresses: Vec<Address> = Vec::new();
+    let base = individual(random);
+    while addresses.len() < SLOTS + 6 {
+        let mut address = *random.pick(&[own, base, base]);
+        let place = random.below(6);
+        address[place] = address[place].wrapping_add(*random.pick(&[2, 4, 254, 128])).wrapping_add(random.octet() & 0xfe);
+        if random.percent(30) {
+            address = individual(random);
+        }
+        if address != own && address != [0; 6] && address[0] & 1 == 0 && !addresses.contains(&address) {
+            addresses.push(address);
+        }
+    }
+    addresses
+}
+
+/// The octets of a frame: algorithm, sequence, status, a field of two octets, the rest.
+fn front(sequence: u16, status: u16, field: u16, rest: Vec<u8>) -> Vec<u8> {
+    let mut frame = vec![0; 8];
+    put16(&mut frame, 0, 3);
+    put16(&mut frame, 2, sequence);
+    put16(&mut frame, 4, status);
+    put16(&mut frame, 6, field);
+    frame.extend(rest);
+    frame
+}
+
+fn damage_frame(random: &mut Random, frame: &mut Vec<u8>) {
+    match random.below(9) {
+        0 => frame.truncate(*random.pick(&[0, 1, 5, 6, 7, 8])),
+        1 => frame.truncate(frame.len() - 1),
+        2 => frame.push(random.octet()),
+        3 => frame.resize(random.within(0, 500), 3),
+        4 => frame.resize(*random.pick(&[103, 104, 360, 361, 151, 152, 408, 409, 39, 40, 41, 264, 265, 2304, 2305, 3000]), 3),
+        5 => frame[0] = *random.pick(&[0, 2, 4, 255]),
+        6 => frame[1] = 1,
+        7 => put16(frame, 2, *random.pick(&[0, 3, 257, 258, 512])),
+        _ => {
+            let place = random.below(frame.len());
+            frame[place] ^= 1 << random.below(8);
+        }
+    }
+}
+
+/// The slots of a table, none if its length is wrong.
+pub fn records(table: &[u8]) -> &[[u8; RECORD]] {
+    match slots_for(table.len()) {
+        Some(_) => table[HEADER..].as_chunks().0,
+        None => &[],
+    }
+}
+
+fn some_record<'a>(random: &mut Random, table: &'a [u8]) -> Option<&'a [u8; RECORD]> {
+    match records(table) {
+        [] => None,
+        records => Some(random.pick(records)).filter(|octets| Peer(*octets).in_use()),
+    }
+}
+
+fn record_of<'a>(table: &'a [u8], address: &Address) -> Option<&'a [u8; RECORD]> {
+    records(table).iter().find(|octets| Peer(*octets).in_use() && Peer(*octets).address() == address)
+}
+
+/// The records in use, and those with a run.
+fn counts(table: &[u8]) -> (u16, u16) {
+    let count = |test: fn(&Peer<&[u8; RECORD]>) -> bool| records(table).iter().filter(|octets| test(&Peer(*octets))).count() as u16;
+    (count(|peer| peer.in_use()), count(|peer| peer.has_run()))
+}

@@ -1,0 +1,19 @@
+//! Conformance: an engine in plain Rust, and the programs that hold the archive's engine to it, to recorded calls and to
+//! demand 3.
+
+pub mod agreement;
+#[cfg(archive)]
+pub mod archive;
+pub mod benchmark;
+pub mod differential;
+pub mod faults;
+pub mod history;
+pub mod inputs;
+pub mod interface;
+pub mod lists;
+pub mod plain;
+pub mod random;
+pub mod replay;
+pub mod report;
+pub mod together;
+pub mod trace;

@@ -1,0 +1,486 @@
+//! Long lists of calls at two printers, with an air that loses, repeats and reorders frames, and demand 3's checks on them.
+//!
+//! A list is honest if it keeps demand 3's premises: no commit is used twice, from the other printer comes only what it sent to
+//! this one, and a Confirm from it that meets a pair gets verdict 1 only if the other made it over that same pair. Then (b) and
+//! (c) are checked; (a) and (d) are checked on every list.
+
+use crate::history::{Answer, History, Pair, Sent};
+use crate::inputs::{slots, Pool, LISTS};
+use crate::interface::{Call, Counts};
+use crate::plain::frame::{self, commit_len, Body, COMMIT as COMMIT_FRAME, CONFIRM, SUCCESS, TOKEN_REQUIRED, VALUE};
+use crate::plain::octets::{get16, get32, Address};
+use crate::plain::peer::{at, Peer, RECORD};
+use crate::plain::rules::LINK_COUNTER;
+use crate::plain::table::{self, Groups, Settings, COMMIT, HEADER};
+use crate::random::Random;
+use crate::together::{Fault, Known, Together};
+
+/// What the lists came to.
+#[derive(Default)]
+pub struct Tally {
+    pub lists: u64,
+    pub honest: u64,
+    pub calls: u64,
+    pub refused: u64,
+    pub frames: u64,
+    pub lost: u64,
+    pub pairs: u64,
+    pub accepted: u64,
+    pub abandoned: u64,
+    pub ended: u64,
+    pub set_ups: u64,
+    /// Times that both links with each other became finished and clear.
+    pub agreed: u64,
+    /// Times that two finished links with each other came to differ, at least one of them marked.
+    pub parted: u64,
+    /// The most repeats in a run, before its pair stands and after.
+    pub repeats: [u32; 2],
+}
+
+impl Tally {
+    pub fn print(&self) {
+        println!("  {} lists of calls at two printers, {} of them with demand 3's premises kept", self.lists, self.honest);
+        println!(
+            "    {} calls (writers aside), {} of them refused; {} frames sent, {} lost; {} further set ups",
+            self.calls, self.refused, self.frames, self.lost, self.set_ups
+        );
+        println!(
+            "    {} pairs formed, {} runs accepted, {} given up, {} links ended",
+            self.pairs, self.accepted, self.abandoned, self.ended
+        );
+        println!("    (a) the table's links were what the answers said, after each call");
+        println!(
+            "    (b) both links clear {} times, always the same pair; {} times two links parted, at least one marked",
+            self.agreed, self.parted
+        );
+        println!("    (c) for each link the other had formed the pair");
+        println!("    (d) at most {} repeats before the pair stood, {} after", self.repeats[0], self.repeats[1]);
+    }
+}
+
+/// A frame that a printer sent to the other, and the pair that a Confirm was made over.
+struct Made {
+    octets: Vec<u8>,
+    over: Option<Pair>,
+}
+
+struct Printer {
+    own: Address,
+    together: Together,
+    history: History,
+    now: u32,
+    /// All that it sent to the other, in order.
+    made: Vec<Made>,
+    /// Frames on their way to it: places in the other's `made`.
+    air: Vec<usize>,
+    /// Fresh commits that were handed over and not used.
+    unused: Option<Vec<u8>>,
+}
+
+impl Printer {
+    fn groups(&self) -> Groups {
+        let table = self.together.table();
+        Groups { count: table[22], list: [get16(table, 24), get16(table, 26)] }
+    }
+}
+
+/// How the chip makes a Confirm's value.
+#[derive(Clone, Copy)]
+enum Chip {
+    /// From the pair and the counter.
+    Told,
+    /// The same for all: octets alone do not tell which pair a Confirm was made over.
+    Same,
+    /// Anew for each.
+    Random,
+}
+
+struct World<'a> {
+    random: &'a mut Random,
+    honest: bool,
+    printers: [Printer; 2],
+    pool: Pool,
+    chip: Chip,
+    loss: usize,
+    serial: u64,
+    together_before: (bool, bool),
+    counts: &'a mut Counts,
+    tally: &'a mut Tally,
+}
+
+/// Plays one list of so many calls.
+pub fn play(random: &mut Random, honest: bool, calls: usize, counts: &mut Counts, tally: &mut Tally) -> Result<(), Fault> {
+    let pool = Pool::new(random);
+    let other = *random.pick(&pool.addresses);
+    let groups = *random.pick(&LISTS);
+    let printers = [pool.own, other].map(|own| Printer {
+        own,
+        together: Together::new(&[], Known::Nothing),
+        history: History::default(),
+        now: *random.pick(&[0, u32::MAX - 500, 1 << 31, 12345]),
+        made: Vec::new(),
+        air: Vec::new(),
+        unused: None,
+    });
+    let chip = *random.pick(&[Chip::Told, Chip::Same, Chip::Random]);
+    let loss = *random.pick(&[0, 5, 20, 50]);
+    tally.lists += 1;
+    tally.honest += u64::from(honest);
+    let mut world = World { random, honest, printers, pool, chip, loss, serial: 0, together_before: (false, false), counts, tally };
+    for who in 0..2 {
+        let list = if world.random.percent(60) { groups } else { *world.random.pick(&LISTS) };
+        world.set_up(who, list)?;
+    }
+    for _ in 0..calls {
+        world.turn()?;
+    }
+    Ok(())
+}
+
+impl World<'_> {
+    fn turn(&mut self) -> Result<(), Fault> {
+        let who = self.random.below(2);
+        let air = self.printers[who].air.len();
+        match self.random.below(100) {
+            0..=54 if air > 0 => self.deliver(who),
+            0..=69 => self.clock(who),
+            70..=76 => self.initiate(who),
+            77 => self.kill(who),
+            78 if self.random.percent(20) => {
+                let list = *self.random.pick(&LISTS);
+                self.set_up(who, list)
+            }
+            78..=81 => self.refused(who),
+            82..=85 => self.replay(who),
+            86..=95 => self.third_party(who),
+            _ if !self.honest => self.anything(who),
+            _ => self.clock(who),
+        }
+    }
+
+    /// Set up with a buffer of its own: another number of slots, other groups and another threshold, the same own address.
+    fn set_up(&mut self, who: usize, groups: Groups) -> Result<(), Fault> {
+        let slots = if self.random.percent(70) { self.random.within(1, 2) } else { slots(self.random).min(8) };
+        let buffer = vec![self.random.octet(); HEADER + RECORD * slots];
+        let threshold = *self.random.pick(&[5, 5, 5, 1, 0]);
+        let settings = Settings { groups, threshold }.octets();
+        let old = self.printers[who].together.table().to_vec();
+        let refuse = !old.is_empty() && self.random.percent(20);
+        let own = if refuse { [0; 6] } else { self.printers[who].own };
+        self.printers[who].together.set(&buffer, Known::Nothing);
+        self.tally.set_ups += u64::from(!old.is_empty());
+        self.call(who, Call::Initialize { own, settings })?;
+        if refuse {
+            // "and a set up that is not refused makes its buffer the table"
+            self.printers[who].together.set(&old, Known::Sound);
+        }
+        Ok(())
+    }
+
+    /// Takes a frame out of the air: mostly the oldest; some are lost, some stay to be delivered again.
+    fn deliver(&mut self, who: usize) -> Result<(), Fault> {
+        let air = &mut self.printers[who].air;
+        let place = if self.random.percent(80) { 0 } else { self.random.below(air.len()) };
+        let frame = air[place];
+        if !self.random.percent(10) {
+            air.remove(place);
+        }
+        if self.random.percent(self.loss) {
+            self.tally.lost += 1;
+            return Ok(());
+        }
+        self.receive_from_other(who, frame)
+    }
+
+    /// Any frame that the other ever sent to this one.
+    fn replay(&mut self, who: usize) -> Result<(), Fault> {
+        match self.printers[1 - who].made.len() {
+            0 => Ok(()),
+            made => {
+                let frame = self.random.below(made);
+                self.receive_from_other(who, frame)
+            }
+        }
+    }
+
+    fn receive_from_other(&mut self, who: usize, frame: usize) -> Result<(), Fault> {
+        let other = self.printers[1 - who].own;
+        let frame = self.printers[1 - who].made[frame].octets.clone();
+        let verified = self.verdict(who, &frame);
+        self.receive(who, other, frame, verified)
+    }
+
+    /// The chip's verdict on a frame from the other. It is free but for a Confirm that meets a pair.
+    fn verdict(&mut self, who: usize, frame: &[u8]) -> u8 {
+        let yes = self.random.percent(95);
+        let other = &self.printers[1 - who];
+        let met = self.printers[who].history.peers.get(&other.own).and_then(|peer| peer.met());
+        let confirm = get16(frame, 2) == CONFIRM && get16(frame, 4) == SUCCESS;
+        match met {
+            Some(pair) if confirm && self.honest => {
+                let right = other.made.iter().any(|made| made.over == Some(pair.exchanged()) && made.octets == frame);
+                u8::from(right && yes)
+            }
+            _ => u8::from(yes),
+        }
+    }
+
+    /// A frame from neither printer: made up, or one of theirs under another address.
+    fn third_party(&mut self, who: usize) -> Result<(), Fault> {
+        let third = self.third_address(who);
+        let made = &self.printers[self.random.below(2)].made;
+        let frame = match made.len() {
+            0 => None,
+            length if self.random.percent(40) => Some(made[self.random.below(length)].octets.clone()),
+            _ => None,
+        };
+        let frame = frame.unwrap_or_else(|| self.pool.frame(self.random, self.printers[who].together.table()));
+        let verified = u8::from(self.random.percent(80));
+        self.receive(who, third, frame, verified)
+    }
+
+    fn third_address(&mut self, who: usize) -> Address {
+        let (own, other) = (self.printers[who].own, self.printers[1 - who].own);
+        let mut thirds = self.pool.addresses.iter().filter(|&&address| address != own && address != other);
+        *thirds.nth(self.random.below(3)).expect("there are more")
+    }
+
+    /// Anything at all: a list with such a call keeps no premise.
+    fn anything(&mut self, who: usize) -> Result<(), Fault> {
+        let other = self.printers[1 - who].own;
+        let table = self.printers[who].together.table();
+        let mut call = self.pool.call(self.random, table);
+        match &mut call {
+            Call::Initialize { own, .. } => *own = self.printers[who].own,
+            Call::Receive { address, .. } | Call::Initiate { address, .. } | Call::Kill { address } if self.random.percent(70) => {
+                *address = other
+            }
+            _ => {}
+        }
+        if let Call::Receive { fresh, .. } | Call::Initiate { fresh, .. } = &mut call {
+            *fresh = self.fresh(who);
+        }
+        self.call(who, call)
+    }
+
+    /// A call that is refused, with anything in it: no premise binds it.
+    fn refused(&mut self, who: usize) -> Result<(), Fault> {
+        let other = self.printers[1 - who].own;
+        let table = self.printers[who].together.table();
+        let frame = self.pool.frame(self.random, table);
+        let (now, fresh) = (self.printers[who].now, self.fresh(who));
+        let mut expected = vec![7; 32];
+        let mut verified = 1;
+        match self.random.below(4) {
+            0 => verified = 2,
+            1 => expected.truncate(31),
+            2 => return self.call(who, Call::Initiate { address: other, now, fresh: fresh[1..].to_vec() }),
+            _ => return self.call(who, Call::Kill { address: self.printers[who].own }),
+        }
+        self.call(who, Call::Receive { address: other, now, frame, fresh, expected, verified })
+    }
+
+    fn receive(&mut self, who: usize, address: Address, frame: Vec<u8>, verified: u8) -> Result<(), Fault> {
+        let now = self.advance(who, 3);
+        let fresh = self.fresh(who);
+        let expected = token(self.printers[who].own, address);
+        self.call(who, Call::Receive { address, now, frame, fresh, expected, verified })
+    }
+
+    fn initiate(&mut self, who: usize) -> Result<(), Fault> {
+        let now = self.advance(who, 3);
+        let address = if self.random.percent(80) { self.printers[1 - who].own } else { self.third_address(who) };
+        let fresh = self.fresh(who);
+        self.call(who, Call::Initiate { address, now, fresh })
+    }
+
+    fn kill(&mut self, who: usize) -> Result<(), Fault> {
+        let address = if self.random.percent(60) { self.printers[1 - who].own } else { self.third_address(who) };
+        self.call(who, Call::Kill { address })
+    }
+
+    /// Moves the clock: mostly to the next deadline, now and then anywhere.
+    fn clock(&mut self, who: usize) -> Result<(), Fault> {
+        let now = self.printers[who].now;
+        let table = self.printers[who].together.table();
+        let t0s = table::slots(table).iter().filter(|octets| Peer(*octets).has_run()).map(|octets| get32(octets, at::T0));
+        let next = t0s.min_by_key(|deadline| deadline.wrapping_sub(now)).unwrap_or(now);
+        self.printers[who].now = match self.random.below(100) {
+            0 => self.random.number32(),
+            1 => now.wrapping_add(86_400_000),
+            2..=29 => now.wrapping_add(self.random.below(60) as u32),
+            _ => next,
+        };
+        self.call(who, Call::Expire { now: self.printers[who].now })
+    }
+
+    fn advance(&mut self, who: usize, most: usize) -> u32 {
+        let printer = &mut self.printers[who];
+        printer.now = printer.now.wrapping_add(self.random.below(most + 1) as u32);
+        printer.now
+    }
+
+    /// Fresh commits that no call has used yet; in a list without premises now and then used ones.
+    fn fresh(&mut self, who: usize) -> Vec<u8> {
+        if let Some(unused) = self.printers[who].unused.take() {
+            let same_list = unused.len() == COMMIT * usize::from(self.printers[who].groups().count);
+            if same_list && self.random.percent(if self.honest { 10 } else { 50 }) && self.right(who, &unused) {
+                return unused;
+            }
+        }
+        let groups = self.printers[who].groups();
+        let mut fresh = vec![0; COMMIT * usize::from(groups.count)];
+        for (place, &group) in fresh.chunks_exact_mut(COMMIT).zip(groups.listed()) {
+            self.random.fill(&mut place[..commit_len(group)]);
+            self.serial += 1;
+            place[..8].copy_from_slice(&self.serial.to_le_bytes());
+        }
+        fresh
+    }
+
+    fn right(&self, who: usize, fresh: &[u8]) -> bool {
+        self.printers[who].groups().fresh_right(fresh)
+    }
+
+    /// Makes a call, takes in its answer, sends its frames and checks demand 3.
+    fn call(&mut self, who: usize, call: Call) -> Result<(), Fault> {
+        let (number, lent) = self.printers[who].together.call(&call, self.counts)?;
+        self.tally.calls += 1;
+        if number != 0 {
+            self.tally.refused += 1;
+            return Ok(());
+        }
+        if !call.may_change() {
+            return Ok(());
+        }
+        let answer = Answer::read(&lent.answer);
+        let groups = self.printers[who].groups();
+        let before = self.printers[who].history.peers.get(&answer.address).and_then(|peer| peer.last_pair);
+        self.printers[who].history.take(&call, &answer, &groups).map_err(|what| breach(&call, what))?;
+        let after = self.printers[who].history.peers.get(&answer.address);
+        self.tally.pairs += u64::from(after.and_then(|peer| peer.last_pair) != before);
+        if let Some(run) = after.and_then(|peer| peer.run) {
+            self.tally.repeats = [0, 1].map(|place| self.tally.repeats[place].max(run.repeats[place]));
+        }
+        match answer.event {
+            1 => self.tally.accepted += 1,
+            2 => self.tally.abandoned += 1,
+            3 => self.tally.ended += 1,
+            _ => {}
+        }
+        if let Call::Initiate { fresh, .. } | Call::Receive { fresh, .. } = &call {
+            if answer.fresh_group == 0 || !self.honest {
+                self.printers[who].unused = Some(fresh.clone());
+            }
+        }
+        for sent in &answer.frames {
+            self.send(who, &call, &answer, sent)?;
+        }
+        self.check(who).map_err(|what| breach(&call, what))
+    }
+
+    /// "The frames in an answer are sent to its address as the writer makes them from the table just left."
+    fn send(&mut self, who: usize, call: &Call, answer: &Answer, sent: &Sent) -> Result<(), Fault> {
+        let peer = &self.printers[who].history.peers[&answer.address];
+        let over = match (sent.sequence, sent.counter) {
+            (CONFIRM, LINK_COUNTER) => peer.link.map(|link| link.pair),
+            (CONFIRM, _) => peer.last_pair,
+            _ => None,
+        };
+        let (address, sequence, room) = (answer.address, sent.sequence, 500);
+        let write = match (sent.sequence, sent.status) {
+            (COMMIT_FRAME, SUCCESS) => Call::WriteRecord { address, sequence, value: Vec::new(), room },
+            (CONFIRM, _) => Call::WriteRecord { address, sequence, value: self.value(over, sent.counter), room },
+            (_, status) => {
+                let expected = match call {
+                    Call::Receive { expected, .. } if status == TOKEN_REQUIRED => expected.clone(),
+                    _ => Vec::new(),
+                };
+                Call::WriteParts { sequence, status, group: sent.group, counter: 0, token: expected, rest: Vec::new(), room }
+            }
+        };
+        let (number, lent) = self.printers[who].together.call(&write, self.counts)?;
+        if number != 0 {
+            return Err(breach(call, format!("the writer refused {number} a frame of the answer: {sent:?}")));
+        }
+        let octets = lent.out[..lent.written as usize].to_vec();
+        let groups = Groups { count: 2, list: [19, 20] };
+        if !says(frame::read(&octets, &groups), sent) {
+            return Err(breach(call, format!("what was written is not the frame of the answer: {sent:?}")));
+        }
+        self.tally.frames += 1;
+        if address == self.printers[1 - who].own {
+            let place = self.printers[who].made.len();
+            self.printers[who].made.push(Made { octets, over });
+            self.printers[1 - who].air.push(place);
+        }
+        Ok(())
+    }
+
+    /// The chip's value for a Confirm.
+    fn value(&mut self, over: Option<Pair>, counter: u16) -> Vec<u8> {
+        let mut value = vec![0u8; VALUE];
+        match (self.chip, over) {
+            (Chip::Told, Some(pair)) => {
+                let octets = [&pair.own[..], &pair.peer[..], &counter.to_le_bytes()].concat();
+                for (place, octet) in octets.iter().enumerate() {
+                    let sum = &mut value[place % VALUE];
+                    *sum = sum.wrapping_mul(31).wrapping_add(*octet);
+                }
+            }
+            (Chip::Random, _) => self.random.fill(&mut value),
+            _ => {}
+        }
+        value
+    }
+
+    /// Demand 3's conclusions, now.
+    fn check(&mut self, who: usize) -> Result<(), String> {
+        let printer = &self.printers[who];
+        printer.history.agrees(printer.together.table())?;
+        if !self.honest {
+            return Ok(());
+        }
+        let [a, b] = &self.printers;
+        let links = [a.history.peers.get(&b.own), b.history.peers.get(&a.own)];
+        let link = |place: usize| links[place].and_then(|peer| peer.link);
+        for place in 0..2 {
+            let formed = |pair: &Pair| links[1 - place].is_some_and(|peer| peer.formed.contains(&pair.exchanged()));
+            if link(place).is_some_and(|link| !formed(&link.pair)) {
+                return Err("(c) a finished link, and the other never formed its pair".into());
+            }
+        }
+        let (mut agreed, mut parted) = (false, false);
+        if let (Some(a), Some(b)) = (link(0), link(1)) {
+            let (clear, same) = (!a.marked && !b.marked, a.pair == b.pair.exchanged());
+            if clear && !same {
+                return Err("(b) two clear finished links with each other differ".into());
+            }
+            (agreed, parted) = (clear, !same);
+        }
+        let before = std::mem::replace(&mut self.together_before, (agreed, parted));
+        self.tally.agreed += u64::from(agreed && !before.0);
+        self.tally.parted += u64::from(parted && !before.1);
+        Ok(())
+    }
+}
+
+/// The token that a printer's host expects from an address.
+fn token(own: Address, address: Address) -> Vec<u8> {
+    (0..32).map(|place| own[place % 6] ^ address[(place + 1) % 6].wrapping_mul(place as u8 | 1)).collect()
+}
+
+/// Whether a body is the frame that an answer tells.
+fn says(body: Option<Body>, sent: &Sent) -> bool {
+    match body {
+        Some(Body::Commit { group, .. }) => (sent.sequence, sent.status, sent.group, sent.counter) == (1, 0, group, 0),
+        Some(Body::TokenRequest { group, .. }) => (sent.sequence, sent.status, sent.group, sent.counter) == (1, 76, group, 0),
+        Some(Body::GroupRefusal { group }) => (sent.sequence, sent.status, sent.group, sent.counter) == (1, 77, group, 0),
+        Some(Body::Confirm { counter }) => (sent.sequence, sent.status, sent.group, sent.counter) == (2, 0, 0, counter),
+        _ => false,
+    }
+}
+
+fn breach(call: &Call, what: String) -> Fault {
+    Fault { what: format!("{what}\n  after {}", crate::trace::shorten(&crate::trace::call_line(call))), trace: String::new() }
+}

@@ -1,0 +1,188 @@
+//! The calls: refusals in the order of the paper's table, then the rule, then the record's place and the counts.
+
+use super::frame::{self, Body, Parts, COMMIT, CONFIRM, SUCCESS, VALUE};
+use super::octets::{individual, pack, usable, Address};
+use super::peer::{Peer, State};
+use super::rules::{self, Record, Step, Turn, LINK_COUNTER};
+use super::table::{self, peer_at, slots, Header, Settings, Standing};
+
+/// "Causes and numbers, in order of test."
+#[derive(Clone, Copy, Debug, PartialEq)]
+pub enum Refusal {
+    Settings = 1,
+    Table = 2,
+    Address = 3,
+    Fresh = 4,
+    Expected = 5,
+    Verified = 6,
+    Body = 7,
+    RunInBeing = 8,
+    NoFreeSlot = 9,
+    NoRecord = 10,
+    Buffer = 11,
+}
+
+/// What a call answers: a step about an address, or none due.
+pub enum Answer {
+    Step(Step, Address),
+    NoneDue,
+}
+
+/// The expected token's octets.
+const EXPECTED: usize = 32;
+
+/// "Set up": 1.
+pub fn initialize(table: &mut [u8], own: &Address, settings: &[u8; 16]) -> Result<Answer, Refusal> {
+    let slots = table::slots_for(table.len()).ok_or(Refusal::Settings)?;
+    let settings = Settings::read(settings).ok_or(Refusal::Settings)?;
+    if !individual(pack(own)) {
+        return Err(Refusal::Settings);
+    }
+    table::initialize(table, slots, own, &settings);
+    Ok(Answer::Step(Step::default(), *own))
+}
+
+/// "Start": 2, 3, 4, 8, 9.
+pub fn initiate(table: &mut [u8], address: &Address, now: u32, fresh: &[u8]) -> Result<Answer, Refusal> {
+    let header = admit(table, address)?;
+    if !header.groups.fresh_right(fresh) {
+        return Err(Refusal::Fresh);
+    }
+    let slot = table::find(table, pack(address));
+    if slot.is_some_and(|slot| Peer(&slots(table)[slot]).has_run()) {
+        return Err(Refusal::RunInBeing);
+    }
+    let slot = slot.or_else(|| table::last_free(table)).ok_or(Refusal::NoFreeSlot)?;
+    let turn = turn(&header, address, now, fresh);
+    let step = at_slot(table, slot, address, |peer| rules::initiate(peer, &turn));
+    Ok(Answer::Step(step, *address))
+}
+
+/// "Kill (frees the record)": 2, 3, 10.
+pub fn kill(table: &mut [u8], address: &Address) -> Result<Answer, Refusal> {
+    admit(table, address)?;
+    let slot = table::find(table, pack(address)).ok_or(Refusal::NoRecord)?;
+    at_slot(table, slot, address, |peer| {
+        peer.end_run();
+        peer.end_link();
+    });
+    Ok(Answer::Step(Step::default(), *address))
+}
+
+/// "Frame received": 2, 3, 4, 5, 6, 7, 9.
+pub fn receive(
+    table: &mut [u8],
+    address: &Address,
+    now: u32,
+    frame: &[u8],
+    fresh: &[u8],
+    expected: &[u8],
+    verified: u8,
+) -> Result<Answer, Refusal> {
+    let header = admit(table, address)?;
+    if !header.groups.fresh_right(fresh) {
+        return Err(Refusal::Fresh);
+    }
+    if expected.len() != EXPECTED {
+        return Err(Refusal::Expected);
+    }
+    if verified > 1 {
+        return Err(Refusal::Verified);
+    }
+    let body = frame::read(frame, &header.groups).ok_or(Refusal::Body)?;
+    let turn = Turn { expected, verified: verified == 1, ..turn(&header, address, now, fresh) };
+    let slot = table::find(table, pack(address)).or_else(|| table::last_free(table));
+    let step = match slot {
+        Some(slot) => at_slot(table, slot, address, |peer| rules::receive(Some(peer), &turn, &body))?,
+        None => rules::receive(None, &turn, &body)?,
+    };
+    Ok(Answer::Step(step, *address))
+}
+
+/// "The clock call serves the due record with the lowest slot number, t0 before t1, or says none is due": 2.
+pub fn expire(table: &mut [u8], now: u32) -> Result<Answer, Refusal> {
+    table::sound(table).ok_or(Refusal::Table)?;
+    let t0_due = |peer: &Peer<_>| peer.has_run() && rules::due(now, peer.t0());
+    let t1_due = |peer: &Peer<_>| peer.has_link() && rules::due(now, peer.t1());
+    let Some(slot) = slots(table).iter().position(|octets| t0_due(&Peer(octets)) || t1_due(&Peer(octets))) else {
+        return Ok(Answer::NoneDue);
+    };
+    let peer = Peer(&slots(table)[slot]);
+    let (address, t0) = (*peer.address(), t0_due(&peer));
+    let step = at_slot(table, slot, &address, |peer| if t0 { rules::expire_t0(peer, now) } else { rules::expire_t1(peer) });
+    Ok(Answer::Step(step, address))
+}
+
+/// The writer, from a frame's parts: 2, 7, 11.
+pub fn write_parts(table: &[u8], parts: &Parts, out: &mut [u8]) -> Result<usize, Refusal> {
+    let header = table::sound(table).ok_or(Refusal::Table)?;
+    if !parts.right(&header.groups) {
+        return Err(Refusal::Body);
+    }
+    parts.write(out).ok_or(Refusal::Buffer)
+}
+
+/// The writer, from an address and which of its record's frames is wanted: 2, 3, 7, 11.
+pub fn write_record(table: &[u8], address: &Address, sequence: u16, value: &[u8], out: &mut [u8]) -> Result<usize, Refusal> {
+    admit(table, address)?;
+    let slot = table::find(table, pack(address)).ok_or(Refusal::Body)?;
+    let peer = Peer(&slots(table)[slot]);
+    let parts = match sequence {
+        // "the run's Commit"
+        COMMIT if peer.has_run() => {
+            Parts { sequence, status: SUCCESS, group: peer.group(), counter: 0, token: peer.token(), rest: peer.own_commit() }
+        }
+        // "the Confirm, whose counter is Sc for a run in Confirmed and 65,535 for a link with no run"
+        CONFIRM if peer.state() != State::Committed && value.len() == VALUE => {
+            let counter = if peer.has_run() { peer.sc() } else { LINK_COUNTER };
+            Parts { sequence, status: SUCCESS, group: 0, counter, token: &[], rest: value }
+        }
+        _ => return Err(Refusal::Body),
+    };
+    parts.write(out).ok_or(Refusal::Buffer)
+}
+
+/// The reader: 2, 7.
+pub fn read<'a>(table: &[u8], frame: &'a [u8]) -> Result<Body<'a>, Refusal> {
+    let header = table::sound(table).ok_or(Refusal::Table)?;
+    frame::read(frame, &header.groups).ok_or(Refusal::Body)
+}
+
+/// The first two causes of a call about an address: 2, 3.
+fn admit(table: &[u8], address: &Address) -> Result<Header, Refusal> {
+    let header = table::sound(table).ok_or(Refusal::Table)?;
+    if usable(pack(address), header.own) {
+        Ok(header)
+    } else {
+        Err(Refusal::Address)
+    }
+}
+
+fn turn<'a>(header: &Header, address: &Address, now: u32, fresh: &'a [u8]) -> Turn<'a> {
+    Turn {
+        now,
+        groups: header.groups,
+        higher: header.own > pack(address),
+        crowded: header.open >= header.threshold,
+        fresh,
+        expected: &[],
+        verified: false,
+    }
+}
+
+/// Lets `rule` change the record in a slot, then seats or frees the record and keeps the counts.
+fn at_slot<T>(table: &mut [u8], slot: usize, address: &Address, rule: impl FnOnce(&mut Record) -> T) -> T {
+    let mut peer = peer_at(table, slot);
+    let before = Standing { in_use: peer.in_use(), open: peer.has_run() };
+    let result = rule(&mut peer);
+    let after = Standing { in_use: peer.has_run() || peer.has_link(), open: peer.has_run() };
+    if after != before {
+        match after.in_use {
+            true => peer.seat(address),
+            // "A record with neither is freed."
+            false => peer.free(),
+        }
+        table::recount(table, before, after);
+    }
+    result
+}

@@ -1,0 +1,149 @@
+//! The engines side by side: each has a table of its own, makes every call, and is compared.
+
+use crate::interface::{engines, Call, Counts, Lent};
+use crate::report::difference;
+use crate::trace::{call_line, expected_lines, shorten, table_lines};
+
+/// Octets before and after each table that no call may touch.
+const GUARD: usize = 32;
+const GUARD_OCTET: u8 = 0x5a;
+
+/// A table with guards on both sides.
+struct Guarded(Vec<u8>);
+
+impl Guarded {
+    fn set(&mut self, octets: &[u8]) {
+        self.0.clear();
+        self.0.resize(GUARD, GUARD_OCTET);
+        self.0.extend_from_slice(octets);
+        self.0.resize(octets.len() + 2 * GUARD, GUARD_OCTET);
+    }
+
+    fn table(&self) -> &[u8] {
+        &self.0[GUARD..self.0.len() - GUARD]
+    }
+
+    fn table_mut(&mut self) -> &mut [u8] {
+        let end = self.0.len() - GUARD;
+        &mut self.0[GUARD..end]
+    }
+
+    fn intact(&self) -> bool {
+        let guards = [&self.0[..GUARD], &self.0[self.0.len() - GUARD..]];
+        guards == [&[GUARD_OCTET; GUARD], &[GUARD_OCTET; GUARD]]
+    }
+}
+
+/// What is known of the table before a call.
+#[derive(Clone, Copy, PartialEq)]
+pub enum Known {
+    Nothing,
+    /// It is of its form: no call may refuse it.
+    Sound,
+    /// It is not: every call but initialize must refuse it.
+    Unsound,
+}
+
+/// A difference, or a fault of one engine, with the lines that make it again.
+pub struct Fault {
+    pub what: String,
+    pub trace: String,
+}
+
+pub struct Together {
+    tables: Vec<Guarded>,
+    before: Vec<u8>,
+    known: Known,
+}
+
+impl Together {
+    pub fn new(table: &[u8], known: Known) -> Together {
+        let mut together = Together { tables: engines().iter().map(|_| Guarded(Vec::new())).collect(), before: Vec::new(), known };
+        together.set(table, known);
+        together
+    }
+
+    /// Every engine's table becomes a copy of this one.
+    pub fn set(&mut self, table: &[u8], known: Known) {
+        self.tables.iter_mut().for_each(|guarded| guarded.set(table));
+        self.known = known;
+    }
+
+    pub fn table(&self) -> &[u8] {
+        self.tables[0].table()
+    }
+
+    /// Makes a call with every engine and answers what the first returned and what was lent to it.
+    pub fn call(&mut self, call: &Call, counts: &mut Counts) -> Result<(u32, Lent), Fault> {
+        self.before.clear();
+        self.before.extend_from_slice(self.tables[0].table());
+        let lent = Lent::for_call(call);
+        let mut first: Option<(u32, Lent)> = None;
+        for (place, engine) in engines().into_iter().enumerate() {
+            let handed = call.clone();
+            let mut got = lent.clone();
+            let number = handed.make(engine, self.tables[place].table_mut(), &mut got);
+            let table = self.tables[place].table();
+            let mut fault = self.broken_promise(call, number, table, &lent, &got);
+            if handed != *call {
+                fault = Some("  what was handed over to be read was written".into());
+            }
+            if !self.tables[place].intact() {
+                fault = Some("  octets beside the table were written".into());
+            }
+            if let Some((number_0, lent_0)) = &first {
+                fault = fault.or_else(|| difference((number, &got, table), (*number_0, lent_0, self.tables[0].table())));
+            }
+            if let Some(what) = fault {
+                let wanted = first.as_ref().map_or((number, &got), |(number, lent)| (*number, lent));
+                return Err(self.fault(engine.name(), what, call, wanted));
+            }
+            first.get_or_insert((number, got));
+        }
+        let (number, lent) = first.expect("there is an engine");
+        counts.add(call, number);
+        if number == 0 && call.may_change() {
+            self.known = Known::Sound;
+        }
+        Ok((number, lent))
+    }
+
+    /// What an engine promises whatever it is compared with.
+    fn broken_promise(&self, call: &Call, number: u32, table: &[u8], before: &Lent, after: &Lent) -> Option<String> {
+        let initialize = matches!(call, Call::Initialize { .. });
+        if (number != 0 || !call.may_change()) && table != self.before {
+            return Some(format!("  returned {number}, and the table changed"));
+        }
+        if number != 0 && before != after {
+            return Some(format!("  refused {number}, and a lent octet changed"));
+        }
+        if number == 2 && self.known == Known::Sound {
+            return Some("  a sound table was refused".into());
+        }
+        if number != 2 && self.known == Known::Unsound && !initialize {
+            return Some(format!("  returned {number} for a table that is not of its form"));
+        }
+        if number == 0 {
+            let untouched = match call {
+                Call::WriteParts { .. } | Call::WriteRecord { .. } => {
+                    let written = after.written as usize;
+                    written <= after.out.len()
+                        && before.out[written..] == after.out[written..]
+                        && (before.answer, before.parts) == (after.answer, after.parts)
+                }
+                Call::Read { .. } => (before.answer, before.written, &before.out) == (after.answer, after.written, &after.out),
+                _ => (before.parts, before.written, &before.out) == (after.parts, after.written, &after.out),
+            };
+            if !untouched {
+                return Some("  an octet was written that is not of the answer".into());
+            }
+        }
+        None
+    }
+
+    fn fault(&self, name: &str, what: String, call: &Call, (number, lent): (u32, &Lent)) -> Fault {
+        let expected = expected_lines(call, &self.before, number, lent, self.tables[0].table());
+        let trace = format!("# {name}\n{}\n{}\n{expected}\n", table_lines(&self.before), call_line(call));
+        Fault { what: format!("{name} differs\n  {}\n{what}", shorten(&call_line(call))), trace }
+    }
+}

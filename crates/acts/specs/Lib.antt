@@ -1,0 +1,2 @@
+-- What the contracts of `acts` cite.
+pub mod Acts

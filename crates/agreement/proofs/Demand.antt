@@ -1,0 +1,102 @@
+-- Demand 3 holds, over every list of calls.
+use mathlib.Core.Path.{_≡_, refl, sym, ap, _∙_, subst}
+use mathlib.Core.Bool.{Bool, true, false, not}
+use mathlib.Core.List.{List}
+use Prim.Native.Nat.{ℕ}
+use native.Mathlib.Omega.{arith}
+use lib.Dec.{eqb}
+use Rattle.protocol.specs.Model.{Commit, Side, A, B, other, state, unlinked, finished}
+use Rattle.protocol.specs.Model as model
+use Rattle.protocol.proofs.Agree.{agreement, formed-before}
+use Rattle.octets.specs.Scan.{bit}
+use Rattle.record.specs.declared.Link.{Link}
+use Rattle.record.specs.declared.Peer.{Peer}
+use Rattle.record.specs.Layout.{noLink}
+use Rattle.table.specs.Table.{decodeTable, look}
+use Rattle.acts.specs.Acts.{_isnt_}
+use Rattle.lawful.proofs.Good as good
+use Rattle.agreement.specs.Calls.{Entry, AllHanded, tableOf}
+use Rattle.agreement.specs.Story.{Pair, exchanged, storyOf}
+use Rattle.agreement.specs.Story as story
+use Rattle.agreement.specs.Statement.{Premises, Says, no-link, a-link, Formed, Demand3}
+use Rattle.agreement.proofs.Engine.{Lawful}
+use Rattle.agreement.proofs.History.{shown}
+use Rattle.agreement.proofs.Acts.{view, viewLink}
+use Rattle.agreement.proofs.Valid.{ownOf, peerOf, pair-is, other-other, hist, states, valid, formed-in}
+
+-- the protocol's link, as the story has it
+abbrev linkView : story.Link → model.Link
+linkView story.unlinked = unlinked
+linkView (story.finished p m) = finished (ownOf p) (peerOf p) m
+
+bit-isnt : (m : Bool) → (bit m isnt 0) ≡ m
+bit-isnt true = refl
+bit-isnt false = refl
+
+says-view : {l : story.Link} {k : Link} → Says l k → viewLink k ≡ linkView l
+unfolding viewLink noLink
+says-view no-link = refl
+says-view (a-link {mark = m} e f a b c) = rw (e, f, a, b, c, bit-isnt m)
+
+view-link : (p : Peer) → view p .link ≡ viewLink (p .link)
+unfolding view
+view-link p = refl
+
+module _ (L : Lawful) (own : Side → List ℕ) {h : List Entry} (H : AllHanded h) where
+  linked : (X : Side) (l : story.Link) → storyOf h X (own (other X)) .link ≡ l → state (hist L own H) X .link ≡ linkView l
+  linked X l e =
+      ap (λ (p : model.Peer). p .link) (states L own H X) ∙ view-link (look (decodeTable (tableOf h X)) (own (other X))) ∙ says-view (shown L H X (own (other X)) .link) ∙ ap linkView e
+
+  demanded : Demand3 own h
+  demanded = record {
+    says = λ X a. shown L H X a .link;
+    agree = λ P p q e f.
+        let z = agreement (hist L own H) (valid L own H P) (ownOf p) (peerOf p) (ownOf q) (peerOf q) (linked A (story.finished p false) e) (linked B (story.finished q false) f) in
+        pair-is q (sym (ap (λ (c : Commit). c .group) (z .1))) (sym (ap (λ (c : Commit). c .octets) (z .1))) (sym (ap (λ (c : Commit). c .octets) (z .0)));
+    formed = λ P X p m e.
+        let o = formed-before (hist L own H) (valid L own H P) X (ownOf p) (peerOf p) m (linked X (story.finished p m) e) in
+        subst (λ (Z : Side). Formed (other X) (own Z) (exchanged p) h) (other-other X) (formed-in L own H (other X) (exchanged p) (o .0) (o .1));
+    six = λ X a. shown L H X a .six;
+  }
+
+-- what the engine's proofs give
+lawful : Lawful
+lawful =
+    record {
+      initiate-good = good.initiate-good;
+      kill-good = good.kill-good;
+      receive-good = good.receive-good;
+      expire-good = good.expire-good;
+      expire-address = good.expire-address;
+    }
+
+-- DEMAND 3, for every list of calls, whatever is handed over
+pub demand3 : (own : Side → List ℕ) (h : List Entry) → AllHanded h → Demand3 own h
+demand3 own h H = demanded lawful own H
+
+-- and so for the tables: two finished links with each other, neither marked, have the same group and the same two commits
+record Linked (l : story.Link) (k : Link) : Type 0 where
+  pair : Pair
+  story : l ≡ story.finished pair false
+  group : k .group ≡ pair .group
+  own : k .own ≡ pair .own
+  peer : k .peer ≡ pair .peer
+
+clear-link : {l : story.Link} {k : Link} → Says l k → k .finished ≡ 1 → k .superseded ≡ 0 → Linked l k
+unfolding noLink
+clear-link no-link e f = let z : _≡_ {A = ℕ} 0 1 = e in absurd (omega arith)
+clear-link (a-link {p = p} {mark = true} e g a b c) h f = let z : _≡_ {A = ℕ} 1 0 = sym g ∙ f in absurd (omega arith)
+clear-link (a-link {p = p} {mark = false} e g a b c) h f = record { pair = p; story = refl; group = a; own = b; peer = c }
+
+abbrev linkIn : List Entry → Side → List ℕ → Link
+linkIn h X a = look (decodeTable (tableOf h X)) a .link
+
+pub tables-agree : (own : Side → List ℕ) (h : List Entry) → AllHanded h → Premises own h
+    → linkIn h A (own B) .finished ≡ 1 → linkIn h A (own B) .superseded ≡ 0 → linkIn h B (own A) .finished ≡ 1 → linkIn h B (own A) .superseded ≡ 0
+    → (linkIn h B (own A) .group ≡ linkIn h A (own B) .group) × (linkIn h B (own A) .own ≡ linkIn h A (own B) .peer) × (linkIn h B (own A) .peer ≡ linkIn h A (own B) .own)
+tables-agree own h H P e f g k =
+    let D = demand3 own h H in
+    let x = clear-link (D .says A (own B)) e f in
+    let y = clear-link (D .says B (own A)) g k in
+    let z = D .agree P (x .pair) (y .pair) (x .story) (y .story) in
+    (y .group ∙ (ap (λ (p : Pair). p .group) z ∙ sym (x .group)), y .own ∙ (ap (λ (p : Pair). p .own) z ∙ sym (x .peer)), y .peer ∙ (ap (λ (p : Pair). p .peer) z ∙ sym (x .own)))

@@ -1,0 +1,396 @@
+-- What a call of the engine does to its table: nothing, where it is refused or nothing is due; or a step of one of the kinds, at one address alone.
+use mathlib.Core.Path.{_≡_, refl, sym, ap, _∙_, subst}
+use mathlib.Core.Logic.{_⊎_, inl, inr}
+use mathlib.Core.Bool.{Bool, true, false, not, _&&_, _||_}
+use mathlib.Core.List.{List, [], _∷_}
+use Prim.Native.Nat.{ℕ, zero, suc, _+_, _^_, _≤_, _<_}
+use native.Mathlib.Omega.{arith}
+use lib.Dec.{eqb, ltb}
+use lib.ListN.{length, take, getD}
+use lib.Seq.{getD-take}
+use borrow.Author.Tests.{eqb-true, eq-eqb, ne-eqb, eqb-false}
+use Rattle.octets.specs.Scan.{if_then_else_}
+use Rattle.octets.specs.Octets.{Bytes, sameAddress, same}
+use Rattle.octets.specs.declared.Found.{Found}
+use Rattle.octets.specs.declared.Found.the-variants as found
+use Rattle.octets.proofs.Scan.{clash, and-left, and-right, cases, first-at}
+use Rattle.groups.specs.Groups.{listed, freshAt, stored}
+use Rattle.frame.specs.Frame.{readBody, tokenOf, commitOf}
+use Rattle.frame.specs.declared.Body.{Body}
+use Rattle.frame.specs.declared.Body.the-variants as body
+use Rattle.frame.proofs.Shapes.{commit-shape, other-commit-shape, other-confirm-shape}
+use Rattle.record.specs.declared.Peer.{Peer}
+use Rattle.record.specs.declared.Settings.{Settings}
+use Rattle.record.specs.declared.Header.{Header}
+use Rattle.record.specs.Layout.{groupsOf, counted, noPeer, decodeHeader, headerOf}
+use Rattle.form.proofs.Laws.{header-form, groups-form, groups-length}
+use Rattle.table.specs.Table.{Table, decodeTable, slot, slots, finds, look, lookBy, sound, entry}
+use Rattle.table.specs.Fresh.{freshOk, initial, freshTable, slotsFor}
+use Rattle.table.specs.declared.Entry.{Entry}
+use Rattle.table.specs.declared.Entry.the-variants as entry-is
+use Rattle.table.proofs.Laws.{entry-at, entry-absent, sound-header}
+use Rattle.table.proofs.Fit.{fit-decoded, fit-slot}
+use Rattle.table.proofs.Fresh.{FitSettings, fresh-slot, initial-sound, initial-decoded, bytes-initial}
+use Rattle.acts.specs.declared.Step.{Step}
+use Rattle.acts.specs.declared.Frames.the-variants as frames
+use Rattle.acts.specs.Acts.{_is_, _isnt_, factory}
+use Rattle.machine.specs.declared.Received.{Received}
+use Rattle.machine.specs.Rules.{onExpired}
+use Rattle.turn.specs.declared.Refusal.{Refusal}
+use Rattle.turn.specs.declared.Refusal.the-variants as why
+use Rattle.turn.specs.declared.Turn.{Turn}
+use Rattle.turn.specs.declared.Turn.the-variants.{Refused, Go}
+use Rattle.turn.specs.declared.Outcome.the-variants as outcome
+use Rattle.turn.specs.declared.Answer.{Answer}
+use Rattle.turn.specs.Turn.{Left, turned, finishes, refuse, refused, quiet, noneDue, said}
+use Rattle.turn.proofs.Laws.{Entered, old, new}
+use Rattle.turn.proofs.Theorems.{Good}
+use Rattle.turn.proofs.Ending.{Finished, Turned, turn-ends, finish-ends}
+use Rattle.turn.proofs.Ending as ending
+use Rattle.due.specs.Due.{dueSlot}
+use Rattle.intake.specs.Intake.{commitsOk, heardCommit, heardToken, bareCommit, isMalformed}
+use Rattle.engine.specs.Calls.{initializes, initiates, kills, receives, expires, expiresBy, running, admitStart, startTurn, startStep, killTurn, killStep, admitFrame, frameTurn, frameStep, frameStepBy, commitStep, confirmStep}
+use Rattle.agreement.specs.Calls.{Call, initialize, initiate, kill, receive, expire, Octets, SettingsHanded, CallHanded, an-initialize, an-initiate, a-kill, a-receive, an-expire, left, isDone, done, tableAfter}
+use Rattle.agreement.specs.Story.{stockOf, isFrame, getsTokenRequest, groupsIn}
+use Rattle.agreement.proofs.Rules.{Whole, Hears, Verified, verified, Does}
+use Rattle.agreement.proofs.Ruled.{State, idle, Heard, Stocked, commit-does, confirm-does, expired-does, start-does, not-true, not-false}
+use Rattle.agreement.proofs.Stock.{Listing, sound-listing, stocked}
+
+-- ---- what the engine's proofs give: each call's step leaves a record of the right form
+
+pub record Lawful : Type 0 where
+  pub initiate-good : (t a : List ℕ) (time : ℕ) (fresh : List ℕ) (f : Found) → Bytes t → length a ≡ 6 → Bytes a → time < 2 ^ 32 → Bytes fresh
+      → startTurn (entry t a) t fresh ≡ Go f → Good t a f (startStep (decodeTable t) f a time fresh)
+  pub kill-good : (t a : List ℕ) (f : Found) → Bytes t → length a ≡ 6 → Bytes a → killTurn (entry t a) ≡ Go f → Good t a f killStep
+  pub receive-good : (t a : List ℕ) (time : ℕ) (frame fresh expected : List ℕ) (verdict : ℕ) (f : Found) → Bytes t → length a ≡ 6 → Bytes a → time < 2 ^ 32
+      → Bytes frame → Bytes fresh → Bytes expected → verdict < 2 ^ 8
+      → frameTurn (entry t a) t frame fresh expected verdict ≡ Go f → Good t a f (frameStep (decodeTable t) f a time frame fresh expected verdict)
+  pub expire-good : (t : List ℕ) (time k : ℕ) → Bytes t → time < 2 ^ 32 → sound t ≡ true → dueSlot (decodeTable t) time ≡ found.At k
+      → Good t (slot (decodeTable t) k .address) (found.At k) (onExpired factory (slot (decodeTable t) k) time)
+  pub expire-address : (t : List ℕ) (time k : ℕ) → Bytes t → sound t ≡ true → dueSlot (decodeTable t) time ≡ found.At k
+      → (length (slot (decodeTable t) k .address) ≡ 6) × Bytes (slot (decodeTable t) k .address)
+
+-- ---- who goes on
+
+go-same : {f g : Found} → Go f ≡ Go g → f ≡ g
+go-same e = cc
+
+clashed : {c : Refusal} {f : Found} {X : Type 0} → Refused c ≡ Go f → X
+clashed e = let z : _≡_ {A = ℕ} 0 1 = cc in absurd (omega arith)
+
+-- a refusal's branch was not taken
+past : (b : Bool) (c : Refusal) (x : Turn) (f : Found) → (if b then Refused c else x) ≡ Go f → (b ≡ false) × (x ≡ Go f)
+past true c x f e = clashed e
+past false c x f e = (refl, e)
+
+admit-start : (T : Table) (g : Found) (fresh : List ℕ) (f : Found) → admitStart T g fresh ≡ Go f
+    → (commitsOk (groupsOf (T .header)) fresh ≡ true) × ((eqb (lookBy T f .run .state) 0 ≡ true))
+unfolding admitStart
+admit-start T g fresh f e =
+    let a = past (not (commitsOk (groupsOf (T .header)) fresh)) why.Fresh (if running (lookBy T g) then Refused why.Running else Go g) f e in
+    let b = past (running (lookBy T g)) why.Running (Go g) f (a .1) in
+    (not-false _ (a .0), subst (λ (x : Found). eqb (lookBy T x .run .state) 0 ≡ true) (go-same (b .1)) (not-false _ (b .0)))
+
+start-admits : (E : Entry) (t fresh : List ℕ) (f : Found) → startTurn E t fresh ≡ Go f
+    → (commitsOk (groupsIn t) fresh ≡ true) × (eqb (lookBy (decodeTable t) f .run .state) 0 ≡ true)
+unfolding startTurn
+start-admits entry-is.Unsound t fresh f e = clashed e
+start-admits entry-is.Unusable t fresh f e = clashed e
+start-admits entry-is.Absent t fresh f e = admit-start (decodeTable t) found.Nothing fresh f e
+start-admits (entry-is.At k) t fresh f e = admit-start (decodeTable t) (found.At k) fresh f e
+
+stock-past : (b x y z : Bool) (g f : Found)
+    → (if not b then Refused why.Fresh else if x then Refused why.Token else if y then Refused why.Verdict else if z then Refused why.Body else Go g) ≡ Go f → b ≡ true
+stock-past b x y z g f e = not-false b (past (not b) why.Fresh (if x then Refused why.Token else if y then Refused why.Verdict else if z then Refused why.Body else Go g) f e .0)
+
+frame-admits : (E : Entry) (t frame fresh expected : List ℕ) (verdict : ℕ) (f : Found) → frameTurn E t frame fresh expected verdict ≡ Go f → commitsOk (groupsIn t) fresh ≡ true
+unfolding frameTurn admitFrame
+frame-admits entry-is.Unsound t frame fresh expected verdict f e = clashed e
+frame-admits entry-is.Unusable t frame fresh expected verdict f e = clashed e
+frame-admits entry-is.Absent t frame fresh expected verdict f e = stock-past (commitsOk (groupsIn t) fresh) (not (eqb (length expected) 32)) (ltb 1 verdict) (isMalformed (readBody (groupsIn t) frame)) _ f e
+frame-admits (entry-is.At k) t frame fresh expected verdict f e = stock-past (commitsOk (groupsIn t) fresh) (not (eqb (length expected) 32)) (ltb 1 verdict) (isMalformed (readBody (groupsIn t) frame)) _ f e
+
+-- the record that a call found is its address's
+entered-look : (t a : List ℕ) (f : Found) → Entered t a f → lookBy (decodeTable t) f ≡ look (decodeTable t) a
+unfolding look
+entered-look t a f (old {k} e) = ap (lookBy (decodeTable t)) (sym (entry-at t a k e .1 .1))
+entered-look t a f (new e) = ap (lookBy (decodeTable t)) (sym (entry-absent t a e .1 .1))
+
+entered-sound : (t a : List ℕ) (f : Found) → Entered t a f → sound t ≡ true
+entered-sound t a f (old {k} e) = entry-at t a k e .0
+entered-sound t a f (new e) = entry-absent t a e .0
+
+-- ---- the rules at work
+
+module _ (t : List ℕ) (s : sound t ≡ true) where
+  first-listed : (0 < length (groupsIn t)) × (getD (groupsIn t) 0 0 ≡ getD (decodeTable t .header .groups) 0 0)
+  unfolding decodeTable decodeHeader headerOf
+  first-listed =
+      let g = header-form _ (sound-header t s) .groups in
+      let n = groups-length _ _ refl g in
+      let m = groups-form _ _ g .some in
+      (omega (arith, n, m), getD-take _ _ _ _ m)
+
+  all-stocked : (c : Call) → commitsOk (groupsIn t) (stockOf c) ≡ true → Stocked (groupsIn t) c
+  all-stocked c w = let l = sound-listing t s in stocked (groupsIn t) (stockOf c) (l .known) (l .once) w c refl
+
+start-kind : (t a : List ℕ) (time : ℕ) (fresh : List ℕ) (f : Found) → sound t ≡ true → startTurn (entry t a) t fresh ≡ Go f
+    → Does (groupsIn t) (initiate a time fresh) (lookBy (decodeTable t) f) (startStep (decodeTable t) f a time fresh)
+unfolding startStep
+start-kind t a time fresh f s e =
+    let q = start-admits (entry t a) t fresh f e in
+    let g = first-listed t s in
+    start-does (groupsIn t) (initiate a time fresh) (lookBy (decodeTable t) f) a (getD (decodeTable t .header .groups) 0 0) (freshAt fresh 0) time refl refl (eqb-true _ _ (q .1))
+    (all-stocked t s (initiate a time fresh) (q .0) .place 0 _ (g .0) (g .1))
+
+module _ (gs a : List ℕ) (time : ℕ) (frame fresh expected : List ℕ) (verdict : ℕ) where
+  abbrev frameCall : Call
+  frameCall = receive a time frame fresh expected verdict
+
+  heard-commit : (g n : ℕ) → readBody gs frame ≡ body.Commit g n → Heard gs frameCall (heardCommit frame g n)
+  unfolding heardCommit
+  heard-commit g n e = record {
+    commit = λ z l. (record { token = n; frame = refl; reads = e; stored-as = refl }, commit-shape gs frame g n e .supported);
+    request = λ z. absurd (omega arith);
+    other = λ z. rw e;
+  }
+
+  heard-token : (g n : ℕ) → readBody gs frame ≡ body.TokenRequest g n → Heard gs frameCall (heardToken frame g n)
+  unfolding heardToken
+  heard-token g n e = record { commit = λ z l. absurd (omega arith); request = λ z. rw e; other = λ z. absurd (z refl) }
+
+  heard-bare : (x g : ℕ) → ((x ≡ 76) → ⊥) → getsTokenRequest gs frameCall ≡ false → Heard gs frameCall (bareCommit x g)
+  unfolding bareCommit
+  heard-bare x g n e = record { commit = λ z l. absurd (clash l refl); request = λ z. absurd (n z); other = λ z. e }
+
+  is-verified : (n : ℕ) → readBody gs frame ≡ body.Confirm n → (verdict is 1) ≡ true → Verified gs frameCall
+  is-verified n e v = subst (λ (x : ℕ). Verified gs (receive a time frame fresh expected x)) (sym (eqb-true _ _ v)) (verified e)
+
+module _ (t a : List ℕ) (time : ℕ) (frame fresh expected : List ℕ) (verdict : ℕ) (f : Found) (S : Stocked (groupsIn t) (receive a time frame fresh expected verdict))
+    (W : Whole (lookBy (decodeTable t) f)) (z : State (lookBy (decodeTable t) f .run .state)) where
+  frame-kind-by : (b : Body) → readBody (groupsIn t) frame ≡ b
+      → Does (groupsIn t) (receive a time frame fresh expected verdict) (lookBy (decodeTable t) f) (frameStepBy b (decodeTable t) f a time frame fresh expected (verdict is 1))
+  unfolding frameStepBy commitStep confirmStep
+  frame-kind-by (body.Commit g n) e =
+      commit-does (groupsIn t) (receive a time frame fresh expected verdict) (lookBy (decodeTable t) f) refl W _ a _ _ _ _ time z (heard-commit (groupsIn t) a time frame fresh expected verdict g n e) S
+  frame-kind-by (body.Unsupported g) e =
+      commit-does (groupsIn t) (receive a time frame fresh expected verdict) (lookBy (decodeTable t) f) refl W _ a _ _ _ _ time z
+      (heard-bare (groupsIn t) a time frame fresh expected verdict 0 g (λ q. omega arith) (rw e)) S
+  frame-kind-by (body.TokenRequest g n) e =
+      commit-does (groupsIn t) (receive a time frame fresh expected verdict) (lookBy (decodeTable t) f) refl W _ a _ _ _ _ time z (heard-token (groupsIn t) a time frame fresh expected verdict g n e) S
+  frame-kind-by (body.GroupRefusal g) e =
+      commit-does (groupsIn t) (receive a time frame fresh expected verdict) (lookBy (decodeTable t) f) refl W _ a _ _ _ _ time z
+      (heard-bare (groupsIn t) a time frame fresh expected verdict 77 g (λ q. omega arith) (rw e)) S
+  frame-kind-by (body.OtherCommit x) e =
+      commit-does (groupsIn t) (receive a time frame fresh expected verdict) (lookBy (decodeTable t) f) refl W _ a _ _ _ _ time z
+      (heard-bare (groupsIn t) a time frame fresh expected verdict x 0 (other-commit-shape (groupsIn t) frame x e .no-request) (rw e)) S
+  frame-kind-by (body.Confirm n) e =
+      confirm-does (groupsIn t) (receive a time frame fresh expected verdict) (lookBy (decodeTable t) f) refl W 0 n _ time z (rw e)
+      (λ q v. is-verified (groupsIn t) a time frame fresh expected verdict n e v)
+  frame-kind-by (body.OtherConfirm x) e =
+      confirm-does (groupsIn t) (receive a time frame fresh expected verdict) (lookBy (decodeTable t) f) refl W x 0 _ time z (rw e)
+      (λ q v. absurd (other-confirm-shape (groupsIn t) frame x e .not-zero q))
+  frame-kind-by body.Malformed e =
+      confirm-does (groupsIn t) (receive a time frame fresh expected verdict) (lookBy (decodeTable t) f) refl W 1 0 _ time z (rw e) (λ q v. absurd (omega arith))
+
+  frame-kind : Does (groupsIn t) (receive a time frame fresh expected verdict) (lookBy (decodeTable t) f) (frameStep (decodeTable t) f a time frame fresh expected verdict)
+  unfolding frameStep
+  frame-kind = frame-kind-by (readBody (groupsIn t) frame) refl
+
+-- ---- how a call ends
+
+-- a start, a frame or a clock call about the address: its step is told
+pub data Told : List ℕ → Call → Type 0 where
+  a-start : {a : List ℕ} {time : ℕ} {fresh : List ℕ} → Told a (initiate a time fresh)
+  a-frame : {a : List ℕ} {time : ℕ} {frame fresh expected : List ℕ} {verdict : ℕ} → Told a (receive a time frame fresh expected verdict)
+  a-clock : {a : List ℕ} {time : ℕ} → Told a (expire time)
+
+-- a step o was made at the address a of the table t, which becomes u; r is the answer
+pub record Made (t u : List ℕ) (a : List ℕ) (o : Step) (r : Answer) : Type 0 where
+  pub answer : r ≡ said o a
+  pub was : sound t ≡ true
+  pub sound : sound u ≡ true
+  pub bytes : Bytes u
+  pub groups : groupsIn u ≡ groupsIn t
+  pub here : look (decodeTable u) a ≡ o .peer
+  pub elsewhere : (b : List ℕ) → sameAddress a b ≡ false → look (decodeTable u) b ≡ look (decodeTable t) b
+
+pub data Ends (t : List ℕ) : Call → Type 0 where
+  -- a refusal, or nothing due
+  idles : {c : Call} → done t c ≡ false → tableAfter t c ≡ t → Ends t c
+  -- a set up: no address has a record
+  sets-up : {buffer own : List ℕ} {settings : Settings} → done t (initialize buffer own settings) ≡ true → left t (initialize buffer own settings) .answer .frames ≡ frames.None
+      → Bytes (tableAfter t (initialize buffer own settings)) → ((a : List ℕ) → look (decodeTable (tableAfter t (initialize buffer own settings))) a ≡ noPeer)
+      → Ends t (initialize buffer own settings)
+  frees : {a : List ℕ} → done t (kill a) ≡ true → Made t (tableAfter t (kill a)) a killStep (left t (kill a) .answer) → Ends t (kill a)
+  steps : {c : Call} (a : List ℕ) (o : Step) → Told a c → done t c ≡ true → Made t (tableAfter t c) a o (left t c .answer)
+      → (Whole (look (decodeTable t) a) → State (look (decodeTable t) a .run .state) → Does (groupsIn t) c (look (decodeTable t) a) o) → Ends t c
+
+groups-kept : (h k : Header) (m n : ℕ) → k ≡ counted h m n → groupsOf k ≡ groupsOf h
+groups-kept h k m n e = ap groupsOf e
+
+made-of : (t a : List ℕ) (o : Step) (l : Left) → sound t ≡ true → Finished t a o l → Made t (l .table) a o (l .answer)
+made-of t a o l s F = record {
+  answer = F .answer;
+  was = s;
+  sound = F .sound;
+  bytes = F .bytes;
+  groups = groups-kept (decodeTable t .header) (decodeTable (l .table) .header) _ _ (F .header);
+  here = F .here;
+  elsewhere = F .elsewhere;
+}
+
+said-done : (o : Step) (a : List ℕ) (r : Answer) → r ≡ said o a → isDone (r .outcome) ≡ true
+unfolding said
+said-done o a r e = rw e
+
+refused-not : (c : Refusal) (t : List ℕ) (l : Left) → l ≡ refuse t c → (isDone (l .answer .outcome) ≡ false) × (l .table ≡ t)
+unfolding refused
+refused-not c t l e = (rw e, rw e)
+
+quiet-done : (a : List ℕ) → isDone (quiet a .outcome) ≡ true
+unfolding quiet
+quiet-done a = refl
+
+quiet-frames : (a : List ℕ) → quiet a .frames ≡ frames.None
+unfolding quiet
+quiet-frames a = refl
+
+refused-done : (c : Refusal) → isDone (refused c .outcome) ≡ false
+unfolding refused
+refused-done c = refl
+
+fresh-look-by : (T : Table) (f : Found) → ((k : ℕ) → slot T k ≡ noPeer) → lookBy T f ≡ noPeer
+unfolding lookBy
+fresh-look-by T (found.At k) e = e k
+fresh-look-by T found.Nothing e = refl
+
+pub fresh-look : (T : Table) (a : List ℕ) → ((k : ℕ) → slot T k ≡ noPeer) → look T a ≡ noPeer
+unfolding look
+fresh-look T a e = fresh-look-by T (finds T a) e
+
+nothing-done : (t : List ℕ) (time : ℕ) → (isDone (expiresBy found.Nothing t time .answer .outcome) ≡ false) × (expiresBy found.Nothing t time .table ≡ t)
+unfolding expiresBy noneDue
+nothing-done t time = (refl, refl)
+
+clock-kind : (t : List ℕ) (time k : ℕ) (p : Peer) → lookBy (decodeTable t) (found.At k) ≡ p → Whole p → State (p .run .state)
+    → Does (groupsIn t) (expire time) p (onExpired factory (slot (decodeTable t) k) time)
+unfolding lookBy
+clock-kind t time k p e W z =
+    subst (λ (q : Peer). Does (groupsIn t) (expire time) p (onExpired factory q time)) (sym e) (expired-does (groupsIn t) (expire time) p refl W time z refl)
+
+-- the clock call, by what it comes to
+module _ (t : List ℕ) (time : ℕ) (l : Left) (q : expires t time ≡ l) where
+  clock-idles : isDone (l .answer .outcome) ≡ false → l .table ≡ t → Ends t (expire time)
+  unfolding done tableAfter
+  clock-idles d e = idles {c = expire time} (ap (λ (x : Left). isDone (x .answer .outcome)) q ∙ d) (ap (λ (x : Left). x .table) q ∙ e)
+
+  clock-steps : (a : List ℕ) (o : Step) → isDone (l .answer .outcome) ≡ true → Made t (l .table) a o (l .answer)
+      → (Whole (look (decodeTable t) a) → State (look (decodeTable t) a .run .state) → Does (groupsIn t) (expire time) (look (decodeTable t) a) o) → Ends t (expire time)
+  unfolding done tableAfter
+  clock-steps a o d m k =
+      steps {c = expire time} a o a-clock (ap (λ (x : Left). isDone (x .answer .outcome)) q ∙ d) (subst (λ (x : Left). Made t (x .table) a o (x .answer)) (sym q) m) k
+
+expires-due : (t : List ℕ) (time : ℕ) (d : Found) → sound t ≡ true → dueSlot (decodeTable t) time ≡ d → expires t time ≡ expiresBy d t time
+unfolding expires
+expires-due t time d s e = rw (s, e)
+
+expires-unsound : (t : List ℕ) (time : ℕ) → sound t ≡ false → expires t time ≡ refuse t why.Form
+unfolding expires
+expires-unsound t time s = rw s
+
+module _ (L : Lawful) (t : List ℕ) (b : Bytes t) where
+  -- a set up
+  initialize-ends : (buffer own : List ℕ) (settings : Settings) → Bytes buffer → Octets 6 own → SettingsHanded settings → Ends t (initialize buffer own settings)
+  unfolding done tableAfter initializes
+  initialize-ends buffer own settings bb ho hs = go (freshOk settings own (length buffer)) refl
+    where
+      fit : FitSettings settings own
+      fit = record { count = hs .count; groups = hs .groups; group0 = hs .group 0; group1 = hs .group 1; threshold = hs .threshold; six = ho .many; bytes = ho .bytes }
+
+      go : (x : Bool) → freshOk settings own (length buffer) ≡ x → Ends t (initialize buffer own settings)
+      go true e = sets-up {buffer = buffer} {own = own} {settings = settings} (rw e (quiet-done own)) (rw e (quiet-frames own)) (rw (e, quiet-done own) (bytes-initial settings own buffer fit bb))
+          (λ a. rw (e, quiet-done own) (fresh-look _ a (λ k. ap (λ (T : Table). slot T k) (initial-decoded settings own buffer fit e) ∙ fresh-slot settings own (slotsFor (length buffer)) k)))
+      go false e = idles {c = initialize buffer own settings} (rw e (refused-done why.Settings)) (rw (e, refused-done why.Settings))
+
+  initiate-ends : (a : List ℕ) (time : ℕ) (fresh : List ℕ) → Octets 6 a → time < 2 ^ 32 → Bytes fresh → Ends t (initiate a time fresh)
+  unfolding done tableAfter initiates
+  initiate-ends a time fresh ha ht hf =
+      go (turn-ends (startTurn (entry t a) t fresh) (λ f. startStep (decodeTable t) f a time fresh) t a b (ha .many) (ha .bytes)
+      (λ f e. L .initiate-good t a time fresh f b (ha .many) (ha .bytes) ht hf e))
+    where
+      go : Turned (startTurn (entry t a) t fresh) (λ f. startStep (decodeTable t) f a time fresh) t a → Ends t (initiate a time fresh)
+      go (ending.denied c e) = let r = refused-not c t _ e in idles (r .0) (r .1)
+      go (ending.done f e F) =
+          let G = L .initiate-good t a time fresh f b (ha .many) (ha .bytes) ht hf e in
+          let s = entered-sound t a f (G .came) in
+          steps a (startStep (decodeTable t) f a time fresh) a-start (said-done _ a _ (F .answer)) (made-of t a _ _ s F)
+          (λ W z. subst (λ (p : Peer). Does (groupsIn t) (initiate a time fresh) p (startStep (decodeTable t) f a time fresh)) (entered-look t a f (G .came)) (start-kind t a time fresh f s e))
+
+  kill-ends : (a : List ℕ) → Octets 6 a → Ends t (kill a)
+  unfolding done tableAfter kills
+  kill-ends a ha = go (turn-ends (killTurn (entry t a)) (λ f. killStep) t a b (ha .many) (ha .bytes) (λ f e. L .kill-good t a f b (ha .many) (ha .bytes) e))
+    where
+      go : Turned (killTurn (entry t a)) (λ f. killStep) t a → Ends t (kill a)
+      go (ending.denied c e) = let r = refused-not c t _ e in idles (r .0) (r .1)
+      go (ending.done f e F) = frees (said-done _ a _ (F .answer)) (made-of t a _ _ (entered-sound t a f (L .kill-good t a f b (ha .many) (ha .bytes) e .came)) F)
+
+  receive-ends : (a : List ℕ) (time : ℕ) (frame fresh expected : List ℕ) (verdict : ℕ) → Octets 6 a → time < 2 ^ 32 → Bytes frame → Bytes fresh → Bytes expected → verdict < 2 ^ 8
+      → Ends t (receive a time frame fresh expected verdict)
+  unfolding done tableAfter receives
+  receive-ends a time frame fresh expected verdict ha ht hr hf he hv =
+      go (turn-ends (frameTurn (entry t a) t frame fresh expected verdict) (λ f. frameStep (decodeTable t) f a time frame fresh expected verdict) t a b (ha .many) (ha .bytes)
+      (λ f e. L .receive-good t a time frame fresh expected verdict f b (ha .many) (ha .bytes) ht hr hf he hv e))
+    where
+      go : Turned (frameTurn (entry t a) t frame fresh expected verdict) (λ f. frameStep (decodeTable t) f a time frame fresh expected verdict) t a
+          → Ends t (receive a time frame fresh expected verdict)
+      go (ending.denied c e) = let r = refused-not c t _ e in idles (r .0) (r .1)
+      go (ending.done f e F) =
+          let G = L .receive-good t a time frame fresh expected verdict f b (ha .many) (ha .bytes) ht hr hf he hv e in
+          let s = entered-sound t a f (G .came) in
+          let q = entered-look t a f (G .came) in
+          let S = all-stocked t s (receive a time frame fresh expected verdict) (frame-admits (entry t a) t frame fresh expected verdict f e) in
+          steps a (frameStep (decodeTable t) f a time frame fresh expected verdict) a-frame (said-done _ a _ (F .answer)) (made-of t a _ _ s F)
+          (λ W z. subst (λ (p : Peer). Does (groupsIn t) (receive a time frame fresh expected verdict) p (frameStep (decodeTable t) f a time frame fresh expected verdict)) q
+          (frame-kind t a time frame fresh expected verdict f S (subst Whole (sym q) W) (subst (λ (p : Peer). State (p .run .state)) (sym q) z)))
+
+  due-ends : (time k : ℕ) → time < 2 ^ 32 → sound t ≡ true → dueSlot (decodeTable t) time ≡ found.At k → Ends t (expire time)
+  unfolding expiresBy
+  due-ends time k ht s e =
+      go (finish-ends t (slot (decodeTable t) k .address) b (six .0) (six .1) (found.At k) (onExpired factory (slot (decodeTable t) k) time) G)
+    where
+      six : (length (slot (decodeTable t) k .address) ≡ 6) × Bytes (slot (decodeTable t) k .address)
+      six = L .expire-address t time k b s e
+
+      G : Good t (slot (decodeTable t) k .address) (found.At k) (onExpired factory (slot (decodeTable t) k) time)
+      G = L .expire-good t time k b ht s e
+
+      at : lookBy (decodeTable t) (found.At k) ≡ look (decodeTable t) (slot (decodeTable t) k .address)
+      at = entered-look t (slot (decodeTable t) k .address) (found.At k) (G .came)
+
+      go : (finishes t (found.At k) (onExpired factory (slot (decodeTable t) k) time) (slot (decodeTable t) k .address) ≡ refuse t why.Full)
+          ⊎ Finished t (slot (decodeTable t) k .address) (onExpired factory (slot (decodeTable t) k) time)
+          (finishes t (found.At k) (onExpired factory (slot (decodeTable t) k) time) (slot (decodeTable t) k .address))
+          → Ends t (expire time)
+      go (inl q) = let r = refused-not why.Full t _ q in clock-idles t time _ (expires-due t time (found.At k) s e) (r .0) (r .1)
+      go (inr F) =
+          clock-steps t time _ (expires-due t time (found.At k) s e) (slot (decodeTable t) k .address) (onExpired factory (slot (decodeTable t) k) time)
+          (said-done _ _ _ (F .answer)) (made-of t _ _ _ s F) (λ W z. clock-kind t time k _ at W z)
+
+  expire-ends : (time : ℕ) → time < 2 ^ 32 → Ends t (expire time)
+  expire-ends time ht = go (sound t) refl
+    where
+      on : sound t ≡ true → (d : Found) → dueSlot (decodeTable t) time ≡ d → Ends t (expire time)
+      on s found.Nothing e = let r = nothing-done t time in clock-idles t time _ (expires-due t time found.Nothing s e) (r .0) (r .1)
+      on s (found.At k) e = due-ends time k ht s e
+
+      go : (x : Bool) → sound t ≡ x → Ends t (expire time)
+      go true s = on s (dueSlot (decodeTable t) time) refl
+      go false s = clock-idles t time _ (expires-unsound t time s) (refused-done why.Form) refl
+
+  pub call-ends : {c : Call} → CallHanded c → Ends t c
+  call-ends (an-initialize bb ho hs) = initialize-ends _ _ _ bb ho hs
+  call-ends (an-initiate ha ht hf) = initiate-ends _ _ _ ha ht hf
+  call-ends (a-kill ha) = kill-ends _ ha
+  call-ends (a-receive ha ht hr hf he hv) = receive-ends _ _ _ _ _ _ ha ht hr hf he hv
+  call-ends (an-expire ht) = expire-ends _ ht

@@ -1,0 +1,157 @@
+-- After every list of calls each printer's record of each address says what its story says, and no run has more than six repeats: no premise is asked.
+use mathlib.Core.Path.{_≡_, refl, sym, ap, _∙_, subst}
+use mathlib.Core.Bool.{Bool, true, false, not, _&&_, _||_}
+use mathlib.Core.List.{List, [], _∷_}
+use Prim.Native.Nat.{ℕ, _<_}
+use native.Mathlib.Omega.{arith}
+use lib.Dec.{eqb, lit<}
+use lib.ListN.{getD}
+use borrow.Author.Tests.{eqb-true}
+use Rattle.protocol.specs.Model.{Side, A, B}
+use Rattle.protocol.specs.Repeats.{AtMost, none}
+use Rattle.octets.specs.Scan.{if_then_else_, firstBelow}
+use Rattle.octets.specs.Octets.{Bytes, num, sameAddress}
+use Rattle.record.specs.declared.Peer.{Peer}
+use Rattle.record.specs.declared.Link.{Link}
+use Rattle.record.specs.Layout.{noPeer, noRun, noLink}
+use Rattle.table.specs.Table.{Table, decodeTable, peersOf, slot, slots, inUse, holds, finds, look, lookBy}
+use Rattle.acts.specs.declared.Step.{Step}
+use Rattle.turn.specs.declared.Answer.{Answer}
+use Rattle.turn.specs.Turn.{said}
+use Rattle.engine.specs.Calls.{killStep}
+use Rattle.agreement.specs.Calls.{Call, initialize, initiate, kill, receive, expire, Entry, Handed, AllHanded, none, more, left, done, tableAfter, mine, tableOf}
+use Rattle.agreement.specs.Story.{Story, nothingYet, unlinked, answered, cleared, isAbout, toldBy, storyAfter, storyOf, groupsIn}
+use Rattle.agreement.specs.Statement.{Says, no-link}
+use Rattle.agreement.proofs.Rules.{Does}
+use Rattle.agreement.proofs.Shows.{Shows, no-run, shows-state, shows-whole, shows-kept, shows-cleared}
+use Rattle.agreement.proofs.Engine.{Lawful, Told, a-start, a-frame, a-clock, Made, Ends, idles, sets-up, frees, steps, call-ends, fresh-look}
+
+-- ---- addresses are the same where their numbers are
+
+pub look-same-address : (T : Table) (a b : List ℕ) → sameAddress a b ≡ true → look T b ≡ look T a
+unfolding look finds holds sameAddress
+look-same-address T a b e =
+    ap (λ (n : ℕ). lookBy T (firstBelow (λ k. inUse (slot T k) && eqb (num (slot T k .address)) n) (slots T))) (sym (eqb-true _ _ e))
+
+-- ---- what a call is about
+
+about-idle : (t : List ℕ) (c : Call) (a : List ℕ) → done t c ≡ false → isAbout t c a ≡ false
+about-idle t (initialize buffer own settings) a e = e
+about-idle t (initiate address time fresh) a e = rw e
+about-idle t (kill address) a e = rw e
+about-idle t (receive address time frame fresh expected verdict) a e = rw e
+about-idle t (expire time) a e = rw e
+
+pub about-told : (t : List ℕ) {c : Call} {x : List ℕ} (a : List ℕ) → Told x c → isAbout t c a ≡ (done t c && sameAddress (left t c .answer .address) a)
+about-told t a a-start = refl
+about-told t a a-frame = refl
+about-told t a a-clock = refl
+
+pub told-by : (t : List ℕ) {c : Call} {x : List ℕ} (s : Story) → Told x c → toldBy t c s ≡ answered (groupsIn t) c (left t c .answer) s
+told-by t s a-start = refl
+told-by t s a-frame = refl
+told-by t s a-clock = refl
+
+said-address : (r : Answer) (o : Step) (a : List ℕ) → r ≡ said o a → r .address ≡ a
+unfolding said
+said-address r o a e = rw e
+
+-- a call that is about the address, or not
+pub story-about : (t : List ℕ) (c : Call) (a : List ℕ) (s : Story) → isAbout t c a ≡ true → storyAfter t c a s ≡ toldBy t c s
+unfolding storyAfter
+story-about t c a s e = rw e
+
+pub story-apart : (t : List ℕ) (c : Call) (a : List ℕ) (s : Story) → isAbout t c a ≡ false → storyAfter t c a s ≡ s
+unfolding storyAfter
+story-apart t c a s e = rw e
+
+pub idle-apart : (t : List ℕ) (c : Call) (a : List ℕ) (s : Story) → done t c ≡ false → storyAfter t c a s ≡ s
+idle-apart t c a s e = story-apart t c a s (about-idle t c a e)
+
+-- a step is about an address just where the step's address is the same
+pub step-about : (t : List ℕ) {c : Call} (a b : List ℕ) (o : Step) → Told a c → done t c ≡ true → left t c .answer ≡ said o a → isAbout t c b ≡ sameAddress a b
+step-about t {c} a b o k d e = about-told t b k ∙ rw (d, said-address _ o a e)
+
+pub kill-about : (t : List ℕ) (x a b : List ℕ) (o : Step) → done t (kill x) ≡ true → left t (kill x) .answer ≡ said o a → isAbout t (kill x) b ≡ sameAddress a b
+kill-about t x a b o d e = rw (d, said-address _ o a e)
+
+killed : killStep .peer ≡ noPeer
+unfolding killStep
+killed = refl
+
+-- ---- one call
+
+shows-at : {p q : Peer} {r s : Story} → q ≡ p → s ≡ r → Shows p r → Shows q s
+shows-at {p} {q} {r} {s} e f h = subst (Shows q) (sym f) (subst (λ (x : Peer). Shows x r) (sym e) h)
+
+module _ (t : List ℕ) where
+  bytes-after : {c : Call} → Bytes t → Ends t c → Bytes (tableAfter t c)
+  bytes-after b (idles d e) = subst Bytes (sym e) b
+  bytes-after b (sets-up d f y n) = y
+  bytes-after b (frees d M) = M .bytes
+  bytes-after b (steps a o k d M D) = M .bytes
+
+  shows-after : {c : Call} (b : List ℕ) (s : Story) → Ends t c → Shows (look (decodeTable t) b) s → Shows (look (decodeTable (tableAfter t c)) b) (storyAfter t c b s)
+  shows-after {c} b s (idles d e) h = shows-at (ap (λ (u : List ℕ). look (decodeTable u) b) e) (idle-apart t c b s d) h
+  shows-after b s (sets-up d f y n) h = shows-at (n b) (story-about t _ b s d) (shows-cleared s (h .six))
+  shows-after b s (frees {a} d M) h = go (sameAddress a b) refl
+    where
+      go : (x : Bool) → sameAddress a b ≡ x → Shows (look (decodeTable (tableAfter t (kill a))) b) (storyAfter t (kill a) b s)
+      go true e =
+          shows-at (look-same-address _ a b e ∙ M .here ∙ killed) (story-about t (kill a) b s (kill-about t a a b killStep d (M .answer) ∙ e)) (shows-cleared s (h .six))
+      go false e = shows-at (M .elsewhere b e) (story-apart t (kill a) b s (kill-about t a a b killStep d (M .answer) ∙ e)) h
+  shows-after {c} b s (steps a o k d M D) h = go (sameAddress a b) refl
+    where
+      go : (x : Bool) → sameAddress a b ≡ x → Shows (look (decodeTable (tableAfter t c)) b) (storyAfter t c b s)
+      go true e =
+          let p = look-same-address (decodeTable t) a b e in
+          let g = subst (λ (q : Peer). Shows q s) p h in
+          shows-at (look-same-address _ a b e ∙ M .here)
+          (story-about t c b s (step-about t a b o k d (M .answer) ∙ e) ∙ told-by t s k ∙ ap (λ (r : Answer). answered (groupsIn t) c r s) (M .answer))
+          (shows-kept (groupsIn t) c a (look (decodeTable t) a) o s (D (shows-whole _ s g) (shows-state _ s g)) g)
+      go false e = shows-at (M .elsewhere b e) (story-apart t c b s (step-about t a b o k d (M .answer) ∙ e)) h
+
+-- ---- every list of calls
+
+mine-same : {T : Type 0} (X : Side) (s t : T) → mine X X s t ≡ s
+mine-same A s t = refl
+mine-same B s t = refl
+
+-- what holds where the call is the printer's own, and where it is the other's
+pub by-side : {T : Type 0} (P : T → Type 0) (X Z : Side) {s t : T} → (X ≡ Z → P s) → P t → P (mine X Z s t)
+by-side P A A p q = p refl
+by-side P A B p q = q
+by-side P B A p q = q
+by-side P B B p q = p refl
+
+no-bytes : Bytes []
+no-bytes i = lit< tt
+
+pub empty-slot : (k : ℕ) → slot (decodeTable []) k ≡ noPeer
+unfolding slot decodeTable peersOf
+empty-slot k = refl
+
+nothing-shown : Shows noPeer nothingYet
+unfolding noPeer
+nothing-shown = record { run = no-run refl; link = no-link; six = none }
+
+shown-by : (a : List ℕ) (Y Z : Side) (t u : List ℕ) {r s : Story} → Shows (look (decodeTable t) a) r → Shows (look (decodeTable u) a) s
+    → Shows (look (decodeTable (mine Y Z u t)) a) (mine Y Z s r)
+shown-by a A A t u p q = q
+shown-by a A B t u p q = p
+shown-by a B A t u p q = p
+shown-by a B B t u p q = q
+
+module _ (L : Lawful) where
+  pub bytes-of : {h : List Entry} → AllHanded h → (X : Side) → Bytes (tableOf h X)
+  unfolding tableOf
+  bytes-of none X = no-bytes
+  bytes-of (more {e = e} {h = h} k H) X =
+      by-side Bytes (e .side) X (λ q. bytes-after (tableOf h X) (bytes-of H X) (call-ends L (tableOf h X) (bytes-of H X) (k .call))) (bytes-of H X)
+
+  pub shown : {h : List Entry} → AllHanded h → (X : Side) (a : List ℕ) → Shows (look (decodeTable (tableOf h X)) a) (storyOf h X a)
+  unfolding tableOf storyOf
+  shown none X a = shows-at (fresh-look (decodeTable []) a empty-slot) refl nothing-shown
+  shown (more {e = e} {h = h} k H) X a =
+      shown-by a (e .side) X (tableOf h X) _ (shown H X a)
+      (shows-after (tableOf h X) a (storyOf h X a) (call-ends L (tableOf h X) (bytes-of H X) (k .call)) (shown H X a))

@@ -1,0 +1,5 @@
+-- What demand 3 says.
+pub mod Calls
+pub mod Story
+pub mod Sent
+pub mod Statement

@@ -1,0 +1,2 @@
+-- The lists of calls.
+pub mod Handshake

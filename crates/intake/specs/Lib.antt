@@ -1,0 +1,2 @@
+-- What the contracts of `intake` cite.
+pub mod Intake

@@ -1,0 +1,111 @@
+// What a frame call takes in: the test of the stock, and what the rules see of a frame.
+ghost use mathlib.Core.Path.{_≡_};
+ghost use Prim.Native.Nat.{_+_, _*_, _≤_};
+ghost use lib.ListN.{length};
+ghost use Rattle.groups.specs.Groups.{width};
+ghost use Rattle.intake.specs.Intake.{tailsOk, commitsOk, isMalformed, storedToken, bareCommit, heardCommit, heardToken};
+use frame::Body;
+use groups::COMMIT;
+use machine::Received;
+
+// Each listed group's fresh commit is zero past its length.
+fn tails_ok(groups: &[u16], fresh: &[u8]) -> bool
+    requires { ⌜ length (now fresh) ≡ width * length (now groups) ⌝ }
+    ensures { λ r. ⌜ r ≡ tailsOk (now (groups .entry)) 0 (now (fresh .entry)) ⌝ }
+{
+    let mut i: usize = 0;
+    while i < groups.len() {
+        let n = groups::commit_length(groups[i]);
+        let zero = octets::zero_part(fresh, COMMIT * i + n, COMMIT - n);
+        if !zero {
+            return false;
+        }
+        i += 1;
+    }
+    true
+}
+
+// Cause 4: the stock's length or a tail is wrong.
+pub fn commits_ok(groups: &[u16], fresh: &[u8]) -> bool
+    ensures { λ r. ⌜ r ≡ commitsOk (now (groups .entry)) (now (fresh .entry)) ⌝ }
+{
+    if fresh.len() / COMMIT != groups.len() {
+        return false;
+    }
+    if fresh.len() % COMMIT != 0 {
+        return false;
+    }
+    tails_ok(groups, fresh)
+}
+
+// Not of the shapes.
+pub fn is_malformed(b: Body) -> bool
+    ensures { λ r. ⌜ r ≡ isMalformed b ⌝ }
+{
+    match b {
+        Body::Commit { group: _, token: _ } => false,
+        Body::Unsupported { group: _ } => false,
+        Body::TokenRequest { group: _, token: _ } => false,
+        Body::GroupRefusal { group: _ } => false,
+        Body::OtherCommit { status: _ } => false,
+        Body::Confirm { counter: _ } => false,
+        Body::OtherConfirm { status: _ } => false,
+        Body::Malformed => true,
+    }
+}
+
+// A Commit of a status and group, with nothing else to it.
+pub fn bare_commit(status: u16, group: u16) -> Received
+    ensures { λ r. ⌜ r ≡ bareCommit status group ⌝ }
+{
+    Received {
+        status: status,
+        group: group,
+        listed: false,
+        toklen: 0,
+        token: [0u8; 256],
+        commit: [0u8; COMMIT],
+    }
+}
+
+// A status 0 Commit in a listed group.
+pub fn heard_commit(body: &[u8], group: u16, n: usize) -> Received
+    requires { ⌜ n ≤ 256 ⌝ }
+    ensures { λ r. ⌜ r ≡ heardCommit (now (body .entry)) group n ⌝ }
+{
+    let commit = frame::commit_of(body, group, n);
+    Received {
+        status: 0,
+        group: group,
+        listed: true,
+        toklen: n as u16,
+        token: [0u8; 256],
+        commit: commit,
+    }
+}
+
+// A token as it is stored: [0; 256] filled with it.
+fn stored_token(token: &[u8]) -> [u8; 256]
+    requires { ⌜ length (now token) ≤ 256 ⌝ }
+    ensures { λ r. ⌜ r ≡ storedToken (now (token .entry)) ⌝ }
+{
+    let mut a = [0u8; 256];
+    octets::copy_in(&mut a[..], 0, token);
+    a
+}
+
+// A 76, with its token.
+pub fn heard_token(body: &[u8], group: u16, n: usize) -> Received
+    requires { ⌜ n ≤ 256 ⌝ }
+    ensures { λ r. ⌜ r ≡ heardToken (now (body .entry)) group n ⌝ }
+{
+    let token = stored_token(frame::token_of(body, n));
+    Received {
+        status: 76,
+        group: group,
+        listed: false,
+        toklen: n as u16,
+        token: token,
+        commit: [0u8; COMMIT],
+    }
+}

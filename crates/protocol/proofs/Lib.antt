@@ -1,0 +1,3 @@
+-- The theorems of `protocol`.
+pub mod Agree
+pub mod Repeats

@@ -1,0 +1,3 @@
+-- What the theorems of `protocol` speak of.
+pub mod Model
+pub mod Repeats

@@ -1,0 +1,71 @@
+-- `sae::parts_of` meets its contract: each return by its law of Laws.
+use Rattle.sae.proofs.Laws.{parts-laid}
+use mathlib.Core.Path.{_≡_, refl}
+use borrow.Author.Needs.{needs}
+use Rattle.sae.proofs.parts_of.Statement.{statement}
+use Rattle.sae.proofs.parts_of.Tie as tie
+
+slice-aggregate-put16 : tie.Need-slice-aggregate-put16
+slice-aggregate-put16 c = search needs
+
+put16-requires : tie.Need-put16-requires
+put16-requires c κs = search needs
+
+slice-aggregate-put16-2 : tie.Need-slice-aggregate-put16-2
+slice-aggregate-put16-2 c = search needs
+
+put16-requires-2 : tie.Need-put16-requires-2
+put16-requires-2 c κs = search needs
+
+slice-aggregate-put16-3 : tie.Need-slice-aggregate-put16-3
+slice-aggregate-put16-3 c = search needs
+
+put16-requires-3 : tie.Need-put16-requires-3
+put16-requires-3 c κs = search needs
+
+slice-aggregate-put16-4 : tie.Need-slice-aggregate-put16-4
+slice-aggregate-put16-4 c = search needs
+
+put16-requires-4 : tie.Need-put16-requires-4
+put16-requires-4 c κs = search needs
+
+slice-aggregate-put32 : tie.Need-slice-aggregate-put32
+slice-aggregate-put32 c = search needs
+
+put32-requires : tie.Need-put32-requires
+put32-requires c κs = search needs
+
+slice-aggregate-put32-2 : tie.Need-slice-aggregate-put32-2
+slice-aggregate-put32-2 c = search needs
+
+put32-requires-2 : tie.Need-put32-requires-2
+put32-requires-2 c κs = search needs
+
+slice-aggregate-put32-3 : tie.Need-slice-aggregate-put32-3
+slice-aggregate-put32-3 c = search needs
+
+put32-requires-3 : tie.Need-put32-requires-3
+put32-requires-3 c κs = search needs
+
+returns : tie.Need-returns
+returns c = parts-laid _ _ _ _ _ _ _ _ _ _ _ _ _ _ _ refl (c .before .before .before .before .before .before .before .before .before .before .before .before .before .before .before .before .before .before .before .put16 .ensures) (c .before .before .before .before .before .before .before .before .before .before .before .before .before .before .before .before .put162 .ensures) (c .before .before .before .before .before .before .before .before .before .before .before .before .before .put163 .ensures) (c .before .before .before .before .before .before .before .before .before .before .put164 .ensures) (c .before .before .before .before .before .before .before .put32 .ensures) (c .before .before .before .before .put322 .ensures) (c .before .put323 .ensures)
+
+pub parts-of-spec : {M : Type 1} → statement M
+parts-of-spec =
+    tie.close
+    (tie.spec
+    slice-aggregate-put16
+    put16-requires
+    slice-aggregate-put16-2
+    put16-requires-2
+    slice-aggregate-put16-3
+    put16-requires-3
+    slice-aggregate-put16-4
+    put16-requires-4
+    slice-aggregate-put32
+    put32-requires
+    slice-aggregate-put32-2
+    put32-requires-2
+    slice-aggregate-put32-3
+    put32-requires-3
+    returns)

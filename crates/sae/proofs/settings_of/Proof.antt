@@ -1,0 +1,46 @@
+-- `sae::settings_of` meets its contract: each return by its law of Laws.
+use Rattle.sae.proofs.Laws.{settings-are}
+use borrow.Author.Needs.{needs}
+use Rattle.sae.proofs.settings_of.Statement.{statement}
+use Rattle.sae.proofs.settings_of.Tie as tie
+
+slice-aggregate-get8 : tie.Need-slice-aggregate-get8
+slice-aggregate-get8 c = search needs
+
+get8-requires : tie.Need-get8-requires
+get8-requires c κs = search needs
+
+slice-aggregate-get16 : tie.Need-slice-aggregate-get16
+slice-aggregate-get16 c = search needs
+
+get16-requires : tie.Need-get16-requires
+get16-requires c κs = search needs
+
+slice-aggregate-get16-2 : tie.Need-slice-aggregate-get16-2
+slice-aggregate-get16-2 c = search needs
+
+get16-requires-2 : tie.Need-get16-requires-2
+get16-requires-2 c κs = search needs
+
+slice-aggregate-get16-3 : tie.Need-slice-aggregate-get16-3
+slice-aggregate-get16-3 c = search needs
+
+get16-requires-3 : tie.Need-get16-requires-3
+get16-requires-3 c κs = search needs
+
+returns : tie.Need-returns
+returns c = settings-are _ _ _ _ _ (c .before .before .before .before .before .before .get8 .ensures) (c .before .before .before .before .get16 .ensures) (c .before .before .get162 .ensures) (c .get163 .ensures)
+
+pub settings-of-spec : {M : Type 1} → statement M
+settings-of-spec =
+    tie.close
+    (tie.spec
+    slice-aggregate-get8
+    get8-requires
+    slice-aggregate-get16
+    get16-requires
+    slice-aggregate-get16-2
+    get16-requires-2
+    slice-aggregate-get16-3
+    get16-requires-3
+    returns)

@@ -1,0 +1,2 @@
+-- What the contracts of `sae` cite.
+pub mod Interface

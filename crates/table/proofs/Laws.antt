@@ -1,0 +1,301 @@
+-- Laws of the table as a value: what soundness says, what the searches find, a record stored.
+use mathlib.Core.Path.{_≡_, refl, sym, ap, _∙_, subst}
+use mathlib.Core.Logic.{_⊎_, inl, inr}
+use mathlib.Core.Bool.{Bool, true, false, not, _&&_, _||_}
+use mathlib.Core.List.{List, [], _∷_, _++_}
+use Prim.Native.Nat.{ℕ, zero, suc, _+_, _-_, _*_, _/_, _≤_, _<_}
+use native.Mathlib.Omega.{arith}
+use native.Mathlib.Decide.{ℕ-discrete}
+use lib.Dec.{eqb, leb}
+use lib.ListN.{length, take, getD, set, length-set}
+use lib.Seq.{getD-set-same, getD-set-other}
+use borrow.Author.Tests.{eqb-true, leb-true, eq-eqb, le-leb, lt-leb, ne-eqb, not-true, not-false}
+use Rattle.octets.specs.Octets.{num, sameAddress}
+use Rattle.octets.specs.Scan.{if_then_else_, allBelow, countBelow, firstBelow, lastBelow, bit}
+use Rattle.octets.specs.declared.Found.{Found}
+use Rattle.octets.specs.declared.Found.the-variants.{At, Nothing}
+use Rattle.octets.proofs.Scan.{clash, cases, and-left, and-right, and-both, all-true, all-of, first-at, first-nothing, first-ext, last-at, count-but, count-le, bit-le}
+use Rattle.groups.specs.Groups.{width}
+use Rattle.record.specs.declared.Peer.{Peer}
+use Rattle.record.specs.declared.Header.{Header}
+use Rattle.record.specs.Layout.{groupsOf}
+use Rattle.form.specs.Form.{usable, headerOk, groupsOk, peerOk}
+use Rattle.form.proofs.Laws.{header-form, groups-form}
+use Rattle.table.specs.Table.{Table, size, decodeTable, encodeTable, slot, slots, inUse, running, holds, alone, slotsOk, addressesOk, countsOk, sound, usedCount, openCount, finds, freeSlot, entry, foundEntry, stored, placed, recounted, Ready, Whole, peersOf}
+use Rattle.table.specs.declared.Entry.{Entry}
+use Rattle.table.specs.declared.Entry.the-variants as entry-is
+use Rattle.table.proofs.Octets.{length-peers}
+
+-- what soundness says
+module _ (t : List ℕ) (s : sound t ≡ true) where
+  pub sound-long : 32 ≤ length t
+  unfolding sound
+  sound-long = leb-true _ _ (and-left _ _ s)
+
+  after-long : (headerOk (decodeTable t .header) && (eqb (length t) (32 + size * slots (decodeTable t)) && (slotsOk (decodeTable t) && (addressesOk (decodeTable t) && countsOk (decodeTable t))))) ≡ true
+  unfolding sound
+  after-long = and-right (leb 32 (length t)) _ s
+
+  pub sound-header : headerOk (decodeTable t .header) ≡ true
+  sound-header = and-left _ _ after-long
+
+  after-header : (eqb (length t) (32 + size * slots (decodeTable t)) && (slotsOk (decodeTable t) && (addressesOk (decodeTable t) && countsOk (decodeTable t)))) ≡ true
+  after-header = and-right (headerOk (decodeTable t .header)) _ after-long
+
+  pub sound-whole : length t ≡ 32 + size * slots (decodeTable t)
+  sound-whole = eqb-true _ _ (and-left _ _ after-header)
+
+  after-whole : (slotsOk (decodeTable t) && (addressesOk (decodeTable t) && countsOk (decodeTable t))) ≡ true
+  after-whole = and-right (eqb (length t) (32 + size * slots (decodeTable t))) _ after-header
+
+  pub sound-slots : slotsOk (decodeTable t) ≡ true
+  sound-slots = and-left _ _ after-whole
+
+  after-slots : (addressesOk (decodeTable t) && countsOk (decodeTable t)) ≡ true
+  after-slots = and-right (slotsOk (decodeTable t)) _ after-whole
+
+  pub sound-addresses : addressesOk (decodeTable t) ≡ true
+  sound-addresses = and-left _ _ after-slots
+
+  pub sound-counts : countsOk (decodeTable t) ≡ true
+  sound-counts = and-right (addressesOk (decodeTable t)) _ after-slots
+
+  pub sound-small : slots (decodeTable t) ≤ 64
+  sound-small = header-form (decodeTable t .header) sound-header .few
+
+  -- A RECORD OF A SOUND TABLE has its form
+  pub sound-peer : (k : ℕ) → k < slots (decodeTable t) → peerOk (decodeTable t .header .own) (groupsOf (decodeTable t .header)) (slot (decodeTable t) k) ≡ true
+  unfolding slotsOk
+  sound-peer k h = all-true (λ j. peerOk (decodeTable t .header .own) (groupsOf (decodeTable t .header)) (slot (decodeTable t) j)) (slots (decodeTable t)) sound-slots k h
+
+  pub ready : (k : ℕ) → k < slots (decodeTable t) → Ready t k
+  unfolding countsOk
+  ready k h = record {
+    fits = omega (arith, sound-whole);
+    whole = sound-whole;
+    below = h;
+    small = sound-small;
+    used = eqb-true _ _ (and-left _ _ sound-counts);
+    opened = eqb-true _ _ (and-right (eqb (decodeTable t .header .used) (usedCount (decodeTable t))) _ sound-counts);
+  }
+
+-- soundness from its parts
+pub sound-of : (t : List ℕ) → 32 ≤ length t → headerOk (decodeTable t .header) ≡ true → length t ≡ 32 + size * slots (decodeTable t)
+    → slotsOk (decodeTable t) ≡ true → addressesOk (decodeTable t) ≡ true → countsOk (decodeTable t) ≡ true → sound t ≡ true
+unfolding sound
+sound-of t a b d e f g = and-both _ _ (le-leb _ _ a) (and-both _ _ b (and-both _ _ (eq-eqb _ _ d) (and-both _ _ e (and-both _ _ f g))))
+
+-- what `is_sound` shows
+no-left : (a b : Bool) → a ≡ false → false ≡ (a && b)
+no-left a b e = rw e
+
+no-right : (a b : Bool) → false ≡ b → false ≡ (a && b)
+no-right true b e = e
+no-right false b e = refl
+
+pub not-long : (t : List ℕ) → length t < 32 → false ≡ sound t
+unfolding sound
+not-long t h = no-left _ _ (lt-leb _ _ h)
+
+not-header : (t : List ℕ) → headerOk (decodeTable t .header) ≡ false → false ≡ sound t
+unfolding sound
+not-header t e = no-right (leb 32 (length t)) _ (no-left _ _ e)
+
+not-whole : (t : List ℕ) → (length t ≡ 32 + size * slots (decodeTable t) → ⊥) → false ≡ sound t
+unfolding sound
+not-whole t d = no-right (leb 32 (length t)) _ (no-right (headerOk (decodeTable t .header)) _ (no-left _ _ (ne-eqb _ _ d)))
+
+body-sound : (t : List ℕ) → 32 ≤ length t → headerOk (decodeTable t .header) ≡ true → length t ≡ 32 + size * slots (decodeTable t)
+    → (slotsOk (decodeTable t) && (addressesOk (decodeTable t) && countsOk (decodeTable t))) ≡ sound t
+unfolding sound
+body-sound t a b d = rw (le-leb _ _ a, b, eq-eqb _ _ d)
+
+-- the same, from what the callees show
+module _ (t : List ℕ) (h : Header) (e : h ≡ decodeTable t .header) where
+  pub not-header-by : (ok : Bool) → ok ≡ headerOk h → not ok ≡ true → false ≡ sound t
+  not-header-by ok p q = not-header t (ap headerOk (sym e) ∙ sym p ∙ not-true ok q)
+
+  pub not-whole-by : (length t ≡ 32 + size * h .slots → ⊥) → false ≡ sound t
+  not-whole-by d = not-whole t (λ q. d (q ∙ ap (λ (g : Header). 32 + size * g .slots) (sym e)))
+
+  pub whole-by : (ok : Bool) → ok ≡ headerOk h → not ok ≡ false → length t ≡ 32 + size * h .slots → Whole t h (h .slots)
+  whole-by ok p q w =
+      let f = header-form h (sym p ∙ not-false ok q) in
+      let g = groups-form (h .count) (h .groups) (f .groups) in
+      record { long = omega (arith, w); header = e; slots = ap (λ (g : Header). g .slots) e; few = f .few; some = g .some; most = g .few }
+
+  pub body-by : (ok r : Bool) → 32 ≤ length t → ok ≡ headerOk h → not ok ≡ false → length t ≡ 32 + size * h .slots
+      → r ≡ (slotsOk (decodeTable t) && (addressesOk (decodeTable t) && countsOk (decodeTable t))) → r ≡ sound t
+  body-by ok r l p q w er =
+      let g : h .slots ≡ slots (decodeTable t) = ap (λ (g : Header). g .slots) e in
+      er ∙ body-sound t l (ap headerOk (sym e) ∙ sym p ∙ not-false ok q) (w ∙ ap (λ (n : ℕ). 32 + size * n) g)
+
+-- what `body_ok` shows
+pub body-law : (t own gs : List ℕ) (h : Header) (n : ℕ) (s a c : Bool) → Whole t h n → own ≡ h .own → gs ≡ groupsOf h
+    → s ≡ allBelow (λ k. peerOk own gs (slot (decodeTable t) k)) n → a ≡ allBelow (alone (decodeTable t)) n → c ≡ countsOk (decodeTable t)
+    → (s && (a && c)) ≡ (slotsOk (decodeTable t) && (addressesOk (decodeTable t) && countsOk (decodeTable t)))
+unfolding slotsOk addressesOk
+body-law t own gs h n s a c w eo eg es ea ec =
+    let n′ : n ≡ slots (decodeTable t) = w .slots in
+    let o : own ≡ decodeTable t .header .own = eo ∙ ap (λ (g : Header). g .own) (w .header) in
+    let g : gs ≡ groupsOf (decodeTable t .header) = eg ∙ ap groupsOf (w .header) in
+    rw (es, ea, ec, o, g, n′) refl
+
+-- what `find`, `free_slot` and `enter` show
+pub find-law : (t : List ℕ) (n : ℕ) (a : List ℕ) (x : ℕ) (r : Found) → n ≡ slots (decodeTable t) → x ≡ num a
+    → r ≡ firstBelow (λ k. inUse (slot (decodeTable t) k) && eqb (num (slot (decodeTable t) k .address)) x) n → r ≡ finds (decodeTable t) a
+unfolding finds holds sameAddress
+find-law t n a x r e p q = q ∙ rw (e, p) refl
+
+pub free-law : (t : List ℕ) (n : ℕ) (r : Found) → n ≡ slots (decodeTable t) → r ≡ lastBelow (λ k. eqb (slot (decodeTable t) k .used) 0) n → r ≡ freeSlot (decodeTable t)
+unfolding freeSlot
+free-law t n r e q = rw e at q
+
+module _ (t a : List ℕ) where
+  pub enter-unsound : (b : Bool) → b ≡ sound t → not b ≡ true → entry-is.Unsound ≡ entry t a
+  unfolding entry
+  enter-unsound b e q = rw (← e, q)
+
+  pub enter-unusable : (b u : Bool) (own : List ℕ) → b ≡ sound t → not b ≡ false → own ≡ decodeTable t .header .own → u ≡ usable own a → not u ≡ true → entry-is.Unusable ≡ entry t a
+  unfolding entry
+  enter-unusable b u own e q eo eu w = rw (← e, q, ← eo, ← eu, w)
+
+  pub enter-found : (b u : Bool) (own : List ℕ) (f : Found) → b ≡ sound t → not b ≡ false → own ≡ decodeTable t .header .own → u ≡ usable own a → not u ≡ false
+      → f ≡ finds (decodeTable t) a → foundEntry f ≡ entry t a
+  unfolding entry
+  enter-found b u own f e q eo eu w ef =
+      let g : not (usable (decodeTable t .header .own) a) ≡ false = ap (λ (o : List ℕ). not (usable o a)) (sym eo) ∙ ap not (sym eu) ∙ w in
+      rw (← e, q, g) (ap foundEntry ef)
+
+  pub enter-at : (b u : Bool) (own : List ℕ) (f : Found) (k : ℕ) → b ≡ sound t → not b ≡ false → own ≡ decodeTable t .header .own → u ≡ usable own a → not u ≡ false
+      → f ≡ finds (decodeTable t) a → f ≡ At k → entry-is.At k ≡ entry t a
+  unfolding foundEntry
+  enter-at b u own f k e q eo eu w ef m = ap foundEntry (sym m) ∙ enter-found b u own f e q eo eu w ef
+
+  pub enter-absent : (b u : Bool) (own : List ℕ) (f : Found) → b ≡ sound t → not b ≡ false → own ≡ decodeTable t .header .own → u ≡ usable own a → not u ≡ false
+      → f ≡ finds (decodeTable t) a → f ≡ Nothing → entry-is.Absent ≡ entry t a
+  unfolding foundEntry
+  enter-absent b u own f e q eo eu w ef m = ap foundEntry (sym m) ∙ enter-found b u own f e q eo eu w ef
+
+-- ---- a record stored
+
+module _ (T : Table) (k : ℕ) (p : Peer) where
+  pub slot-same : k < length (T .peers) → slot (stored T k p) k ≡ p
+  unfolding slot stored
+  slot-same h = getD-set-same (T .peers) k p _ h
+
+  pub slot-other : (j : ℕ) → (j ≡ k → ⊥) → slot (stored T k p) j ≡ slot T j
+  unfolding slot stored
+  slot-other j d = getD-set-other (T .peers) k j p _ d
+
+  -- a count after the record is stored
+  count-stored : (f : Peer → Bool) → k < slots T → k < length (T .peers)
+      → countBelow (λ j. f (slot T j)) (slots T) + bit (f p) ≡ countBelow (λ j. f (slot (stored T k p) j)) (slots T) + bit (f (slot T k))
+  count-stored f h l =
+      ap (λ (q : Peer). countBelow (λ j. f (slot T j)) (slots T) + bit (f q)) (sym (slot-same l))
+      ∙ count-but (λ j. f (slot T j)) (λ j. f (slot (stored T k p) j)) (slots T) k h (λ j m d. ap f (sym (slot-other j d)))
+
+  pub used-stored : k < slots T → k < length (T .peers) → usedCount T + bit (inUse p) ≡ usedCount (stored T k p) + bit (inUse (slot T k))
+  unfolding usedCount stored
+  used-stored h l = count-stored inUse h l
+
+  pub open-stored : k < slots T → k < length (T .peers) → openCount T + bit (running p) ≡ openCount (stored T k p) + bit (running (slot T k))
+  unfolding openCount stored
+  open-stored h l = count-stored running h l
+
+-- the number of records that the octets hold
+pub peers-held : (t : List ℕ) (n : ℕ) → length t ≡ 32 + size * n → length (decodeTable t .peers) ≡ n
+unfolding decodeTable
+peers-held t n h = let q : (length t - 32) / size ≡ n = omega arith in length-peers _ _ ∙ q
+
+-- what `counts_with` shows
+count-has : (f : ℕ → Bool) (n i : ℕ) → i < n → bit (f i) ≤ countBelow f n
+unfolding countBelow
+count-has f zero i h = absurd (omega arith)
+count-has f (suc n) i h = elim (ℕ-discrete i n) [
+  | yes e ↦ rw e (omega arith)
+  | no d ↦ omega (arith, count-has f n i (omega arith))
+]
+
+balance : (r n u v a b : ℕ) → r + a ≡ n + b → n ≡ u → u + b ≡ v + a → r ≡ v
+balance r n u v a b p q e = omega arith
+
+module _ (t : List ℕ) (k : ℕ) (p : Peer) (R : Ready t k) (h : Header) (e : h ≡ decodeTable t .header) where
+  pub share-used : (was : Bool) → was ≡ inUse (slot (decodeTable t) k) → (bit was ≤ h .used) × (h .used ≤ 64)
+  unfolding usedCount
+  share-used was q =
+      let u : h .used ≡ usedCount (decodeTable t) = ap (λ (g : Header). g .used) e ∙ R .used in
+      let a : bit was ≤ usedCount (decodeTable t) = rw q (count-has (λ j. inUse (slot (decodeTable t) j)) (slots (decodeTable t)) k (R .below)) in
+      let b : usedCount (decodeTable t) ≤ slots (decodeTable t) = count-le (λ j. inUse (slot (decodeTable t) j)) (slots (decodeTable t)) in
+      (rw u a, omega (arith, R .small))
+
+  pub share-open : (was : Bool) → was ≡ running (slot (decodeTable t) k) → (bit was ≤ h .opened) × (h .opened ≤ 64)
+  unfolding openCount
+  share-open was q =
+      let u : h .opened ≡ openCount (decodeTable t) = ap (λ (g : Header). g .opened) e ∙ R .opened in
+      let a : bit was ≤ openCount (decodeTable t) = rw q (count-has (λ j. running (slot (decodeTable t) j)) (slots (decodeTable t)) k (R .below)) in
+      let b : openCount (decodeTable t) ≤ slots (decodeTable t) = count-le (λ j. running (slot (decodeTable t) j)) (slots (decodeTable t)) in
+      (rw u a, omega (arith, R .small))
+
+  in-peers : k < length (decodeTable t .peers)
+  in-peers = omega (arith, peers-held t (slots (decodeTable t)) (R .whole), R .below)
+
+  pub after-used : (was : Bool) (r : ℕ) → was ≡ inUse (slot (decodeTable t) k) → r + bit was ≡ h .used + bit (inUse p) → r ≡ usedCount (stored (decodeTable t) k p)
+  after-used was r q w =
+      balance r (h .used) (usedCount (decodeTable t)) _ (bit was) (bit (inUse p)) w (ap (λ (g : Header). g .used) e ∙ R .used)
+      (rw q (used-stored (decodeTable t) k p (R .below) in-peers))
+
+  pub after-open : (was : Bool) (r : ℕ) → was ≡ running (slot (decodeTable t) k) → r + bit was ≡ h .opened + bit (running p) → r ≡ openCount (stored (decodeTable t) k p)
+  after-open was r q w =
+      balance r (h .opened) (openCount (decodeTable t)) _ (bit was) (bit (running p)) w (ap (λ (g : Header). g .opened) e ∙ R .opened)
+      (rw q (open-stored (decodeTable t) k p (R .below) in-peers))
+
+-- what `slots_of` shows
+pub slots-law : (t : List ℕ) (h : Header) → sound t ≡ true → h ≡ decodeTable t .header → (h .slots ≡ slots (decodeTable t)) × (32 + size * h .slots ≡ length t)
+slots-law t h s e = let g : h .slots ≡ slots (decodeTable t) = ap (λ (g : Header). g .slots) e in (g, rw g (sym (sound-whole t s)))
+
+-- from a negated test
+pub sound-by : (t : List ℕ) (b : Bool) → b ≡ sound t → not b ≡ false → sound t ≡ true
+sound-by t b e q = sym e ∙ not-false b q
+
+-- what `entry` says
+module _ where
+  abbrev went : Bool → Bool → Found → Entry
+  went b u f = if not b then entry-is.Unsound else if not u then entry-is.Unusable else foundEntry f
+
+  went-at : (b u : Bool) (f : Found) (k : ℕ) → went b u f ≡ entry-is.At k → (b ≡ true) × ((u ≡ true) × (f ≡ At k))
+  unfolding foundEntry
+  went-at false u f k e = let z : _≡_ {A = ℕ} 0 1 = cc in absurd (omega arith)
+  went-at true false f k e = let z : _≡_ {A = ℕ} 0 1 = cc in absurd (omega arith)
+  went-at true true (At j) k e = let q : j ≡ k = cc in (refl, (refl, ap At q))
+  went-at true true Nothing k e = let z : _≡_ {A = ℕ} 0 1 = cc in absurd (omega arith)
+
+  went-absent : (b u : Bool) (f : Found) → went b u f ≡ entry-is.Absent → (b ≡ true) × ((u ≡ true) × (f ≡ Nothing))
+  unfolding foundEntry
+  went-absent false u f e = let z : _≡_ {A = ℕ} 0 1 = cc in absurd (omega arith)
+  went-absent true false f e = let z : _≡_ {A = ℕ} 0 1 = cc in absurd (omega arith)
+  went-absent true true (At j) e = let z : _≡_ {A = ℕ} 0 1 = cc in absurd (omega arith)
+  went-absent true true Nothing e = (refl, (refl, refl))
+
+pub entry-at : (t a : List ℕ) (k : ℕ) → entry t a ≡ entry-is.At k → (sound t ≡ true) × ((usable (decodeTable t .header .own) a ≡ true) × (finds (decodeTable t) a ≡ At k))
+unfolding entry
+entry-at t a k e = went-at (sound t) (usable (decodeTable t .header .own) a) (finds (decodeTable t) a) k e
+
+pub entry-absent : (t a : List ℕ) → entry t a ≡ entry-is.Absent → (sound t ≡ true) × ((usable (decodeTable t .header .own) a ≡ true) × (finds (decodeTable t) a ≡ Nothing))
+unfolding entry
+entry-absent t a e = went-absent (sound t) (usable (decodeTable t .header .own) a) (finds (decodeTable t) a) e
+
+pub found-below : (T : Table) (a : List ℕ) (k : ℕ) → finds T a ≡ At k → (k < slots T) × (holds a (slot T k) ≡ true)
+unfolding finds
+found-below T a k e = first-at _ (slots T) k e
+
+pub free-below-law : (T : Table) (k : ℕ) → freeSlot T ≡ At k → (k < slots T) × (eqb (slot T k .used) 0 ≡ true)
+unfolding freeSlot
+free-below-law T k e = last-at _ (slots T) k e
+
+pub entry-ready : (t a : List ℕ) (k : ℕ) → entry t a ≡ entry-is.At k → Ready t k
+entry-ready t a k e = let w = entry-at t a k e in ready t (w .0) k (found-below (decodeTable t) a k (w .1 .1) .0)
+
+pub none-holds : (T : Table) (a : List ℕ) → finds T a ≡ Nothing → (i : ℕ) → i < slots T → holds a (slot T i) ≡ false
+unfolding finds
+none-holds T a e i h = first-nothing (λ k. holds a (slot T k)) (slots T) e i h

@@ -1,0 +1,48 @@
+use mathlib.Core.Path.{_≡_, refl, sym}
+use native.Mathlib.Omega.{arith}
+use lib.ListN.{length, take}
+use lib.Seq.{length-take-le}
+use Rattle.table.proofs.Laws.{body-law}
+use borrow.Author.Needs.{needs}
+use Rattle.table.proofs.body_ok.Statement.{statement}
+use Rattle.table.proofs.body_ok.Tie as tie
+
+cast-m : tie.Need-cast-m
+cast-m c = search needs
+
+-- the header's groups are two
+two : (c : tie.Start) → length (c .args .h .groups) ≡ 2
+two c = search needs
+
+listed-are : (c : tie.Start) → length (take (c .args .h .count) (c .args .h .groups)) ≡ c .args .h .count
+listed-are c = length-take-le (c .args .h .count) (c .args .h .groups) (omega (arith, two c, c .pre .most))
+
+array-share-prefix-gs : tie.Need-array-share-prefix-gs
+array-share-prefix-gs c = let k = c .before .before .before .before in omega (arith, two k, k .pre .most)
+
+slice-aggregate-slots-ok : tie.Need-slice-aggregate-slots-ok
+slice-aggregate-slots-ok c = sym (listed-are (c .before .before .before .before .before))
+
+slots-ok-requires : tie.Need-slots-ok-requires
+slots-ok-requires c κs = let k = c .before .before .before .before .before in (k .pre .long, (omega (arith, listed-are k, k .pre .some), omega (arith, listed-are k, k .pre .most)))
+
+addresses-ok-requires : tie.Need-addresses-ok-requires
+addresses-ok-requires c κs = search needs
+
+counts-ok-requires : tie.Need-counts-ok-requires
+counts-ok-requires c κs = search needs
+
+returns : tie.Need-returns
+returns c = let k = c .before .before .before .before .before .before .before .before in body-law (k .args .t .now) _ _ (k .args .h) (k .args .n) _ _ _ (k .pre) refl refl (c .before .before .slots-ok .ensures) (c .before .addresses-ok .ensures) (c .counts-ok .ensures)
+
+pub body-ok-spec : {M : Type 1} → statement M
+body-ok-spec =
+    tie.close
+    (tie.spec
+    cast-m
+    array-share-prefix-gs
+    slice-aggregate-slots-ok
+    slots-ok-requires
+    addresses-ok-requires
+    counts-ok-requires
+    returns)

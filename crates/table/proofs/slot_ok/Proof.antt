@@ -1,0 +1,43 @@
+use Rattle.form.specs.Form.{peerOk}
+use mathlib.Core.Path.{_≡_, refl, sym, ap, _∙_}
+use Rattle.table.proofs.Octets.{window-law}
+use borrow.Author.Needs.{needs}
+use Rattle.table.proofs.slot_ok.Statement.{statement}
+use Rattle.table.proofs.slot_ok.Tie as tie
+
+mul-a : tie.Need-mul-a
+mul-a c = search needs
+
+add-a : tie.Need-add-a
+add-a c = search needs
+
+add-e : tie.Need-add-e
+add-e c = search needs
+
+sub-peer-ok : tie.Need-sub-peer-ok
+sub-peer-ok c = search needs
+
+part-peer-ok-start : tie.Need-part-peer-ok-start
+part-peer-ok-start c = search needs
+
+part-peer-ok-end : tie.Need-part-peer-ok-end
+part-peer-ok-end c = search needs
+
+peer-ok-requires : tie.Need-peer-ok-requires
+peer-ok-requires c κs = search needs
+
+returns : tie.Need-returns
+returns c = let k = c .before .before .before .before in c .peer-ok .ensures ∙ ap (peerOk (k .args .own) (k .args .groups .now)) (window-law (k .args .t .now) (k .args .k) (k .pre .0))
+
+pub slot-ok-spec : {M : Type 1} → statement M
+slot-ok-spec =
+    tie.close
+    (tie.spec
+    mul-a
+    add-a
+    add-e
+    sub-peer-ok
+    part-peer-ok-start
+    part-peer-ok-end
+    peer-ok-requires
+    returns)

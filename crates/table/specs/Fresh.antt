@@ -1,0 +1,50 @@
+-- The table that set up makes.
+use mathlib.Core.Bool.{Bool, true, false, not, _&&_}
+use mathlib.Core.List.{List, [], _∷_}
+use Prim.Native.Nat.{ℕ, _+_, _-_, _*_, _/_}
+use lib.Dec.{eqb, leb}
+use lib.ListN.{length, replicate}
+use Rattle.octets.specs.Scan.{if_then_else_}
+use Rattle.groups.specs.Groups.{width}
+use Rattle.record.specs.declared.Header.{Header}
+use Rattle.record.specs.declared.Settings.{Settings}
+use Rattle.record.specs.Layout.{recordSize, noPeer}
+use Rattle.form.specs.Form.{ownOk, settingsOk}
+use Rattle.table.specs.Table.{Table, size, encodeTable}
+
+-- the number of slots that a length has room for
+unfoldable pub slotsFor : ℕ → ℕ
+slotsFor n = (n - 32) / size
+
+-- "slots N (1 to 64). The table's length is 32 + 864 × N."
+unfoldable pub lengthOk : ℕ → Bool
+lengthOk n = leb 1 (slotsFor n) && (leb (slotsFor n) 64 && eqb n (32 + size * slotsFor n))
+
+-- a header with no slot in use
+unfoldable pub freshHeader : Settings → List ℕ → ℕ → Header
+freshHeader s own n =
+    record {
+      slots = n;
+      used = 0;
+      opened = 0;
+      size = size;
+      first = 32;
+      spare = replicate 6 0;
+      own = own;
+      count = s .count;
+      spare1 = 0;
+      groups = s .groups;
+      threshold = s .threshold;
+      spare2 = 0;
+    }
+
+unfoldable pub freshTable : Settings → List ℕ → ℕ → Table
+freshTable s own n = record { header = freshHeader s own n; peers = replicate n noPeer }
+
+-- cause 1: "Settings, own address or length wrong at set up"
+unfoldable pub freshOk : Settings → List ℕ → ℕ → Bool
+freshOk s own n = settingsOk s && (ownOk own && lengthOk n)
+
+-- the buffer that set up leaves: the fresh table, or as it was; its old content is not looked at
+unfoldable pub initial : Settings → List ℕ → List ℕ → List ℕ
+initial s own t = if freshOk s own (length t) then encodeTable (freshTable s own (slotsFor (length t))) else t

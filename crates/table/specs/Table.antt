@@ -1,0 +1,165 @@
+-- The lent table as a value, a header and a list of records: its octets, its form, its searches, and a record placed in a slot.
+use mathlib.Core.Path.{_≡_}
+use mathlib.Core.Bool.{Bool, true, false, not, _&&_, _||_}
+use mathlib.Core.List.{List, [], _∷_, _++_}
+use Prim.Native.Nat.{ℕ, zero, suc, _+_, _-_, _*_, _/_, _≤_, _<_}
+use lib.Dec.{eqb, leb}
+use lib.ListN.{length, take, drop, getD, set}
+use Rattle.octets.specs.Octets.{num, sameAddress}
+use Rattle.octets.specs.Scan.{allBelow, countBelow, firstBelow, lastBelow, if_then_else_}
+use Rattle.octets.specs.declared.Found.{Found}
+use Rattle.octets.specs.declared.Found.the-variants.{At, Nothing}
+use Rattle.groups.specs.Groups.{width}
+use Rattle.record.specs.declared.Peer.{Peer}
+use Rattle.record.specs.declared.Header.{Header}
+use Rattle.record.specs.Layout.{encodePeer, decodePeer, encodeHeader, decodeHeader, counted, groupsOf, recordSize, noPeer}
+use Rattle.form.specs.Form.{usable, headerOk, peerOk}
+use Rattle.table.specs.declared.Entry.{Entry}
+use Rattle.table.specs.declared.Entry.the-variants as entry-is
+
+pub record Table : Type 0 where
+  pub header : Header
+  pub peers : List Peer
+
+-- the octets of a record
+abbrev pub size : ℕ
+size = recordSize width
+
+-- ---- octets
+
+unfoldable pub peersOf : ℕ → List ℕ → List Peer
+peersOf zero s = []
+peersOf (suc n) s = decodePeer width (take size s) ∷ peersOf n (drop size s)
+
+unfoldable pub octetsOf : List Peer → List ℕ
+octetsOf [] = []
+octetsOf (p ∷ ps) = encodePeer p ++ octetsOf ps
+
+-- as many records as there are octets for
+unfoldable pub decodeTable : List ℕ → Table
+decodeTable t = record { header = decodeHeader t; peers = peersOf ((length t - 32) / size) (drop 32 t) }
+
+unfoldable pub encodeTable : Table → List ℕ
+encodeTable T = encodeHeader (T .header) ++ octetsOf (T .peers)
+
+-- ---- slots
+
+abbrev pub slots : Table → ℕ
+slots T = T .header .slots
+
+-- the record of a slot
+unfoldable pub slot : Table → ℕ → Peer
+slot T k = getD (T .peers) k noPeer
+
+abbrev pub inUse : Peer → Bool
+inUse p = eqb (p .used) 1
+
+-- "Open, the records whose run is Committed or Confirmed"
+abbrev pub running : Peer → Bool
+running p = eqb (p .run .state) 1 || eqb (p .run .state) 2
+
+-- a record in use that has the address
+unfoldable pub holds : List ℕ → Peer → Bool
+holds a p = inUse p && sameAddress (p .address) a
+
+-- "2–3 slots in use; 4–5 Open"
+unfoldable pub usedCount : Table → ℕ
+usedCount T = countBelow (λ k. inUse (slot T k)) (slots T)
+
+unfoldable pub openCount : Table → ℕ
+openCount T = countBelow (λ k. running (slot T k)) (slots T)
+
+-- the slot of an address
+unfoldable pub finds : Table → List ℕ → Found
+finds T a = firstBelow (λ k. holds a (slot T k)) (slots T)
+
+-- "A new peer takes the free slot nearest the end."
+unfoldable pub freeSlot : Table → Found
+freeSlot T = lastBelow (λ k. eqb (slot T k .used) 0) (slots T)
+
+-- the record of an address, an empty one where it has none
+unfoldable pub lookBy : Table → Found → Peer
+lookBy T (At k) = slot T k
+lookBy T Nothing = noPeer
+
+unfoldable pub look : Table → List ℕ → Peer
+look T a = lookBy T (finds T a)
+
+-- ---- the form of the table
+
+-- the record of each slot has its form
+unfoldable pub slotsOk : Table → Bool
+slotsOk T = allBelow (λ k. peerOk (T .header .own) (groupsOf (T .header)) (slot T k)) (slots T)
+
+-- no slot before has the address of this one, if it is in use
+unfoldable pub alone : Table → ℕ → Bool
+alone T k = not (inUse (slot T k)) || allBelow (λ j. not (holds (slot T k .address) (slot T j))) k
+
+-- "Addresses differ."
+unfoldable pub addressesOk : Table → Bool
+addressesOk T = allBelow (alone T) (slots T)
+
+-- the header's counts are true
+unfoldable pub countsOk : Table → Bool
+countsOk T = eqb (T .header .used) (usedCount T) && eqb (T .header .opened) (openCount T)
+
+-- "The table's length is 32 + 864 × N."
+unfoldable pub sound : List ℕ → Bool
+sound t =
+    leb 32 (length t)
+    && (headerOk (decodeTable t .header)
+    && (eqb (length t) (32 + size * slots (decodeTable t))
+    && (slotsOk (decodeTable t)
+    && (addressesOk (decodeTable t)
+    && countsOk (decodeTable t)))))
+
+-- ---- what every call about an address begins with: causes 2 and 3, then the record's slot
+
+unfoldable pub foundEntry : Found → Entry
+foundEntry (At k) = entry-is.At k
+foundEntry Nothing = entry-is.Absent
+
+unfoldable pub entry : List ℕ → List ℕ → Entry
+entry t a =
+    if not (sound t) then entry-is.Unsound
+    else if not (usable (decodeTable t .header .own) a) then entry-is.Unusable
+    else foundEntry (finds (decodeTable t) a)
+
+-- ---- a record placed in a slot, the counts made true
+
+unfoldable pub recounted : Table → Table
+recounted T = record { header = counted (T .header) (usedCount T) (openCount T); peers = T .peers }
+
+unfoldable pub stored : Table → ℕ → Peer → Table
+stored T k p = record { header = T .header; peers = set (T .peers) k p }
+
+unfoldable pub placed : Table → ℕ → Peer → Table
+placed T k p = recounted (stored T k p)
+
+-- what `place` asks of the octets: a slot of a table whose length and counts are right
+pub record Ready (t : List ℕ) (k : ℕ) : Type 0 where
+  pub fits : 32 + size * k + size ≤ length t
+  pub whole : length t ≡ 32 + size * slots (decodeTable t)
+  pub below : k < slots (decodeTable t)
+  pub small : slots (decodeTable t) ≤ 64
+  pub used : decodeTable t .header .used ≡ usedCount (decodeTable t)
+  pub opened : decodeTable t .header .opened ≡ openCount (decodeTable t)
+
+-- ---- addresses as numbers
+
+-- one above the number of a record's address, 0 where it is not in use
+unfoldable pub key : Peer → ℕ
+key p = if inUse p then num (p .address) + 1 else 0
+
+-- no key before is the same, if it is not 0
+unfoldable pub newKey : List ℕ → ℕ → Bool
+newKey keys k = eqb (getD keys k 0) 0 || allBelow (λ j. not (eqb (getD keys j 0) (getD keys k 0))) k
+
+-- what the tests on the slots ask: the header, of the right form, and the number of slots
+pub record Whole (t : List ℕ) (h : Header) (n : ℕ) : Type 0 where
+  pub long : 32 + size * n ≤ length t
+  pub header : h ≡ decodeTable t .header
+  pub slots : n ≡ decodeTable t .header .slots
+  pub few : n ≤ 64
+  pub some : 1 ≤ h .count
+  pub most : h .count ≤ 2

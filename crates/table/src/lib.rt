@@ -1,0 +1,464 @@
+// The lent table: its form, its searches, a record in and out of a slot, and the table that set up makes.
+ghost use mathlib.Core.Path.{_≡_};
+ghost use mathlib.Core.Bool.{true, _&&_};
+ghost use mathlib.Core.List.{_++_};
+ghost use Prim.Native.Nat.{ℕ, _+_, _-_, _*_, _≤_, _<_};
+ghost use lib.Dec.{eqb};
+ghost use lib.ListN.{length, getD, replicate};
+ghost use Rattle.octets.specs.Octets.{put, num};
+ghost use Rattle.octets.specs.Scan.{allBelow, countBelow, firstBelow, lastBelow, bit};
+ghost use Rattle.record.specs.Layout.{encodePeer, encodeHeader};
+ghost use Rattle.form.specs.Form.{peerOk};
+ghost use Rattle.table.specs.Table.{size, decodeTable, encodeTable, slots, slot, inUse, running, finds, freeSlot, usedCount, openCount, slotsOk, alone, addressesOk, countsOk, sound, entry, stored, placed, key, newKey, Ready, Whole};
+ghost use Rattle.table.specs.Fresh.{slotsFor, lengthOk, freshHeader, freshOk, initial};
+use octets::Found;
+use record::HEADER;
+use record::Header;
+use record::Peer;
+use record::RECORD;
+use record::RUN;
+use record::Settings;
+
+// What every call about an address begins with.
+pub enum Entry {
+    Unsound,
+    Unusable,
+    Absent,
+    At(usize),
+}
+
+// ---- one slot
+
+pub fn load_peer(t: &[u8], k: usize) -> Peer
+    requires { ⌜ 32 + size * k + size ≤ length (now t) ⌝ }
+    ensures { λ r. ⌜ r ≡ slot (decodeTable (now (t .entry))) k ⌝ }
+{
+    let a = HEADER + RECORD * k;
+    let e = a + RECORD;
+    record::load_peer(&t[a..e])
+}
+
+pub fn store_peer(t: &mut [u8], k: usize, p: Peer)
+    requires { ⌜ 32 + size * k + size ≤ length (now t) ⌝ }
+    ensures { λ _. ⌜ now (t .exit) ≡ put (now (t .entry)) (32 + size * k) (encodePeer p) ⌝ }
+{
+    let a = HEADER + RECORD * k;
+    let e = a + RECORD;
+    record::store_peer(&mut t[a..e], p);
+}
+
+pub fn used_at(t: &[u8], k: usize) -> u8
+    requires { ⌜ 32 + size * k + size ≤ length (now t) ⌝ }
+    ensures { λ r. ⌜ r ≡ slot (decodeTable (now (t .entry))) k .used ⌝ }
+{
+    octets::get8(t, HEADER + RECORD * k)
+}
+
+pub fn state_at(t: &[u8], k: usize) -> u8
+    requires { ⌜ 32 + size * k + size ≤ length (now t) ⌝ }
+    ensures { λ r. ⌜ r ≡ slot (decodeTable (now (t .entry))) k .run .state ⌝ }
+{
+    octets::get8(t, HEADER + RUN + RECORD * k)
+}
+
+// The address of a slot's record, as one number.
+fn number_at(t: &[u8], k: usize) -> u64
+    requires { ⌜ 32 + size * k + size ≤ length (now t) ⌝ }
+    ensures { λ r. ⌜ (r ≡ num (slot (decodeTable (now (t .entry))) k .address)) × (r < 281474976710656) ⌝ }
+{
+    octets::get48(t, HEADER + 1 + RECORD * k)
+}
+
+fn is_used(t: &[u8], k: usize) -> bool
+    requires { ⌜ 32 + size * k + size ≤ length (now t) ⌝ }
+    ensures { λ r. ⌜ r ≡ inUse (slot (decodeTable (now (t .entry))) k) ⌝ }
+{
+    used_at(t, k) == 1
+}
+
+pub fn is_running(t: &[u8], k: usize) -> bool
+    requires { ⌜ 32 + size * k + size ≤ length (now t) ⌝ }
+    ensures { λ r. ⌜ r ≡ running (slot (decodeTable (now (t .entry))) k) ⌝ }
+{
+    let state = state_at(t, k);
+    (state == 1) | (state == 2)
+}
+
+fn has(t: &[u8], k: usize, x: u64) -> bool
+    requires { ⌜ 32 + size * k + size ≤ length (now t) ⌝ }
+    ensures { λ r. ⌜ r ≡ (inUse (slot (decodeTable (now (t .entry))) k) && eqb (num (slot (decodeTable (now (t .entry))) k .address)) x) ⌝ }
+{
+    let used = is_used(t, k);
+    let number = number_at(t, k);
+    used & (number == x)
+}
+
+// ---- searches and counts below a slot
+
+// The first slot below n in use with the address of the number x.
+fn find_below(t: &[u8], n: usize, x: u64) -> Found
+    requires { ⌜ 32 + size * n ≤ length (now t) ⌝ }
+    ensures { λ r. ⌜ r ≡ firstBelow (λ k. inUse (slot (decodeTable (now (t .entry))) k) && eqb (num (slot (decodeTable (now (t .entry))) k .address)) x) n ⌝ }
+{
+    let mut i = 0;
+    while i < n {
+        if has(t, i, x) {
+            return Found::At(i);
+        }
+        i += 1;
+    }
+    Found::Nothing
+}
+
+// The last free slot below n.
+fn free_below(t: &[u8], n: usize) -> Found
+    requires { ⌜ 32 + size * n ≤ length (now t) ⌝ }
+    ensures { λ r. ⌜ r ≡ lastBelow (λ k. eqb (slot (decodeTable (now (t .entry))) k .used) 0) n ⌝ }
+{
+    let mut i = n;
+    while 0 < i {
+        let k = i - 1;
+        if used_at(t, k) == 0 {
+            return Found::At(k);
+        }
+        i -= 1;
+    }
+    Found::Nothing
+}
+
+fn count_used(t: &[u8], n: usize) -> usize
+    requires { ⌜ 32 + size * n ≤ length (now t) ⌝ }
+    ensures { λ r. ⌜ r ≡ countBelow (λ k. inUse (slot (decodeTable (now (t .entry))) k)) n ⌝ }
+{
+    let mut c: usize = 0;
+    let mut i = 0;
+    while i < n {
+        c += octets::one_if(is_used(t, i));
+        i += 1;
+    }
+    c
+}
+
+fn count_open(t: &[u8], n: usize) -> usize
+    requires { ⌜ 32 + size * n ≤ length (now t) ⌝ }
+    ensures { λ r. ⌜ r ≡ countBelow (λ k. running (slot (decodeTable (now (t .entry))) k)) n ⌝ }
+{
+    let mut c: usize = 0;
+    let mut i = 0;
+    while i < n {
+        c += octets::one_if(is_running(t, i));
+        i += 1;
+    }
+    c
+}
+
+// ---- the form of the table
+
+fn slot_ok(t: &[u8], k: usize, own: [u8; 6], groups: &[u16]) -> bool
+    requires { ⌜ (32 + size * k + size ≤ length (now t)) × ((1 ≤ length (now groups)) × (length (now groups) ≤ 8)) ⌝ }
+    ensures { λ r. ⌜ r ≡ peerOk own (now (groups .entry)) (slot (decodeTable (now (t .entry))) k) ⌝ }
+{
+    let a = HEADER + RECORD * k;
+    let e = a + RECORD;
+    form::peer_ok(&t[a..e], own, groups)
+}
+
+// Every slot below n has its form: one pass over the records.
+fn slots_ok(t: &[u8], n: usize, own: [u8; 6], groups: &[u16]) -> bool
+    requires { ⌜ (32 + size * n ≤ length (now t)) × ((1 ≤ length (now groups)) × (length (now groups) ≤ 8)) ⌝ }
+    ensures { λ r. ⌜ r ≡ allBelow (λ k. peerOk own (now (groups .entry)) (slot (decodeTable (now (t .entry))) k)) n ⌝ }
+{
+    let mut i = 0;
+    while i < n {
+        if slot_ok(t, i, own, groups) {
+            i += 1;
+        } else {
+            return false;
+        }
+    }
+    true
+}
+
+// One above the number of a slot's address, 0 where it is free.
+fn key_at(t: &[u8], k: usize) -> u64
+    requires { ⌜ 32 + size * k + size ≤ length (now t) ⌝ }
+    ensures { λ r. ⌜ r ≡ key (slot (decodeTable (now (t .entry))) k) ⌝ }
+{
+    let number = number_at(t, k);
+    if is_used(t, k) {
+        return number + 1;
+    }
+    0
+}
+
+// The keys of all slots, side by side.
+fn keys_of(t: &[u8], n: usize) -> [u64; 64]
+    requires { ⌜ (32 + size * n ≤ length (now t)) × (n ≤ 64) ⌝ }
+    ensures { λ r. ⌜ ((k : ℕ) → k < n → getD r k 0 ≡ key (slot (decodeTable (now (t .entry))) k)) ⌝ }
+{
+    let mut keys = [0u64; 64];
+    let mut i = 0;
+    while i < n {
+        let x = key_at(t, i);
+        keys[i] = x;
+        i += 1;
+    }
+    keys
+}
+
+// No key before is the same: all are compared, with no early way out.
+fn is_new(keys: &[u64], k: usize) -> bool
+    requires { ⌜ k < length (now keys) ⌝ }
+    ensures { λ r. ⌜ r ≡ newKey (now (keys .entry)) k ⌝ }
+{
+    let x = keys[k];
+    let mut any = false;
+    let mut j = 0;
+    while j < k {
+        any = any | (keys[j] == x);
+        j += 1;
+    }
+    (x == 0) | !any
+}
+
+fn all_new(keys: &[u64], n: usize) -> bool
+    requires { ⌜ n ≤ length (now keys) ⌝ }
+    ensures { λ r. ⌜ r ≡ allBelow (newKey (now (keys .entry))) n ⌝ }
+{
+    let mut i = 0;
+    while i < n {
+        if is_new(keys, i) {
+            i += 1;
+        } else {
+            return false;
+        }
+    }
+    true
+}
+
+// The addresses of the slots in use differ.
+fn addresses_ok(t: &[u8], n: usize) -> bool
+    requires { ⌜ (32 + size * n ≤ length (now t)) × (n ≤ 64) ⌝ }
+    ensures { λ r. ⌜ r ≡ allBelow (alone (decodeTable (now (t .entry)))) n ⌝ }
+{
+    let keys = keys_of(t, n);
+    all_new(&keys[..], n)
+}
+
+fn counts_ok(t: &[u8], h: Header, n: usize) -> bool
+    requires { ⌜ (32 + size * n ≤ length (now t)) × ((h ≡ decodeTable (now t) .header) × (n ≡ decodeTable (now t) .header .slots)) ⌝ }
+    ensures { λ r. ⌜ r ≡ countsOk (decodeTable (now (t .entry))) ⌝ }
+{
+    let used = count_used(t, n);
+    let opened = count_open(t, n);
+    (h.used as usize == used) & (h.opened as usize == opened)
+}
+
+// The slots, their addresses and the counts, under a header of the right form.
+fn body_ok(t: &[u8], h: Header, n: usize) -> bool
+    requires { ⌜ Whole (now t) h n ⌝ }
+    ensures { λ r. ⌜ r ≡ (slotsOk (decodeTable (now (t .entry))) && (addressesOk (decodeTable (now (t .entry))) && countsOk (decodeTable (now (t .entry))))) ⌝ }
+{
+    let own = h.own;
+    let gs = h.groups;
+    let m = h.count as usize;
+    let slots = slots_ok(t, n, own, &gs[..m]);
+    let addresses = addresses_ok(t, n);
+    let counts = counts_ok(t, h, n);
+    slots & (addresses & counts)
+}
+
+pub fn header_of(t: &[u8]) -> Header
+    requires { ⌜ 32 ≤ length (now t) ⌝ }
+    ensures { λ r. ⌜ r ≡ decodeTable (now (t .entry)) .header ⌝ }
+{
+    record::load_header(t)
+}
+
+// The whole form of the table, for octets of any number and content.
+pub fn is_sound(t: &[u8]) -> bool
+    ensures { λ r. ⌜ r ≡ sound (now (t .entry)) ⌝ }
+{
+    if t.len() < HEADER {
+        return false;
+    }
+    let h = header_of(t);
+    if !form::header_ok(h) {
+        return false;
+    }
+    let n = h.slots as usize;
+    if t.len() != HEADER + RECORD * n {
+        return false;
+    }
+    body_ok(t, h, n)
+}
+
+// ---- a sound table
+
+pub fn slots_of(t: &[u8]) -> usize
+    requires { ⌜ sound (now t) ≡ true ⌝ }
+    ensures { λ r. ⌜ (r ≡ slots (decodeTable (now (t .entry)))) × (32 + size * r ≡ length (now (t .entry))) ⌝ }
+{
+    let h = header_of(t);
+    h.slots as usize
+}
+
+// The slot of an address.
+pub fn find(t: &[u8], a: [u8; 6]) -> Found
+    requires { ⌜ sound (now t) ≡ true ⌝ }
+    ensures { λ r. ⌜ r ≡ finds (decodeTable (now (t .entry))) a ⌝ }
+{
+    let n = slots_of(t);
+    let x = octets::packed(a);
+    find_below(t, n, x)
+}
+
+// "A new peer takes the free slot nearest the end."
+pub fn free_slot(t: &[u8]) -> Found
+    requires { ⌜ sound (now t) ≡ true ⌝ }
+    ensures { λ r. ⌜ r ≡ freeSlot (decodeTable (now (t .entry))) ⌝ }
+{
+    let n = slots_of(t);
+    free_below(t, n)
+}
+
+// Causes 2 and 3, then the record's slot.
+pub fn enter(t: &[u8], a: [u8; 6]) -> Entry
+    ensures { λ r. ⌜ r ≡ entry (now (t .entry)) a ⌝ }
+{
+    if !is_sound(t) {
+        return Entry::Unsound;
+    }
+    let h = header_of(t);
+    let own = h.own;
+    if !form::is_usable(own, a) {
+        return Entry::Unusable;
+    }
+    match find(t, a) {
+        Found::At(k) => Entry::At(k),
+        Found::Nothing => Entry::Absent,
+    }
+}
+
+// ---- a record placed
+
+// A count that loses one record's share and takes another's.
+fn moved(n: u16, was: bool, is: bool) -> u16
+    requires { ⌜ (bit was ≤ n) × (n ≤ 64) ⌝ }
+    ensures { λ r. ⌜ r + bit was ≡ n + bit is ⌝ }
+{
+    let w = octets::one_if(was);
+    let i = octets::one_if(is);
+    (n as usize + i - w) as u16
+}
+
+pub struct Counts {
+    pub used: u16,
+    pub opened: u16,
+}
+
+// The counts with a record in a slot.
+fn counts_with(t: &[u8], k: usize, p: Peer) -> Counts
+    requires { ⌜ Ready (now t) k ⌝ }
+    ensures { λ r. ⌜ (r .used ≡ usedCount (stored (decodeTable (now (t .entry))) k p)) × (r .opened ≡ openCount (stored (decodeTable (now (t .entry))) k p)) ⌝ }
+{
+    let h = header_of(t);
+    let state = p.run.state;
+    let used = moved(h.used, is_used(t, k), p.used == 1);
+    let opened = moved(h.opened, is_running(t, k), (state == 1) | (state == 2));
+    Counts {
+        used: used,
+        opened: opened,
+    }
+}
+
+// A record goes into a slot, and the counts are made true.
+pub fn place(t: &mut [u8], k: usize, p: Peer)
+    requires { ⌜ Ready (now t) k ⌝ }
+    ensures { λ _. ⌜ now (t .exit) ≡ encodeTable (placed (decodeTable (now (t .entry))) k p) ⌝ }
+{
+    let n = counts_with(t, k, p);
+    store_peer(t, k, p);
+    record::set_counts(t, n.used, n.opened);
+}
+
+// ---- set up
+
+fn slots_for(n: usize) -> usize
+    requires { ⌜ 32 ≤ n ⌝ }
+    ensures { λ r. ⌜ r ≡ slotsFor n ⌝ }
+{
+    (n - HEADER) / RECORD
+}
+
+// Whether a length is that of 1 to 64 slots.
+fn length_ok(n: usize) -> bool
+    ensures { λ r. ⌜ r ≡ lengthOk n ⌝ }
+{
+    if n < HEADER {
+        return false;
+    }
+    let k = slots_for(n);
+    (1 <= k) & ((k <= 64) & ((n - HEADER) % RECORD == 0))
+}
+
+fn fresh_ok(s: Settings, own: [u8; 6], n: usize) -> bool
+    ensures { λ r. ⌜ r ≡ freshOk s own n ⌝ }
+{
+    let settings = form::settings_ok(s);
+    let owner = form::own_ok(own);
+    let length = length_ok(n);
+    settings & (owner & length)
+}
+
+fn fresh_header(s: Settings, own: [u8; 6], n: u16) -> Header
+    ensures { λ r. ⌜ r ≡ freshHeader s own n ⌝ }
+{
+    let gs = s.groups;
+    Header {
+        slots: n,
+        used: 0,
+        opened: 0,
+        size: RECORD as u16,
+        first: HEADER as u16,
+        spare: [0u8; 6],
+        own: own,
+        count: s.count,
+        spare1: 0,
+        groups: gs,
+        threshold: s.threshold,
+        spare2: 0,
+    }
+}
+
+fn zero_all(s: &mut [u8])
+    ensures { λ _. ⌜ now (s .exit) ≡ replicate (length (now (s .entry))) 0 ⌝ }
+{
+    let mut i = 0;
+    while i < s.len() {
+        s[i] = 0;
+        i += 1;
+    }
+}
+
+// A header, and zeros for all the slots.
+fn fill(t: &mut [u8], h: Header)
+    requires { ⌜ 32 ≤ length (now t) ⌝ }
+    ensures { λ _. ⌜ now (t .exit) ≡ encodeHeader h ++ replicate (length (now (t .entry)) - 32) 0 ⌝ }
+{
+    zero_all(&mut t[HEADER..]);
+    record::store_header(&mut t[0..HEADER], h);
+}
+
+// The fresh table goes into a lent buffer, or, false, cause 1 holds and the buffer stays as it was.
+pub fn write_fresh(t: &mut [u8], own: [u8; 6], s: Settings) -> bool
+    ensures { λ r. ⌜ (r ≡ freshOk s own (length (now (t .entry)))) × (now (t .exit) ≡ initial s own (now (t .entry))) ⌝ }
+{
+    let n = t.len();
+    if !fresh_ok(s, own, n) {
+        return false;
+    }
+    let h = fresh_header(s, own, slots_for(n) as u16);
+    fill(t, h);
+    true
+}

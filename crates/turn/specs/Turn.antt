@@ -1,0 +1,104 @@
+-- What all calls share: the numbered refusals, the answer, where a record goes, and the end of every call.
+use mathlib.Core.Path.{_≡_}
+use mathlib.Core.Bool.{Bool, true, false}
+use mathlib.Core.List.{List}
+use Prim.Native.Nat.{ℕ, _<_}
+use lib.Dec.{eqb}
+use lib.ListN.{replicate}
+use Rattle.octets.specs.Scan.{if_then_else_}
+use Rattle.octets.specs.declared.Found.{Found}
+use Rattle.octets.specs.declared.Found.the-variants as found
+use Rattle.record.specs.declared.Peer.{Peer}
+use Rattle.acts.specs.declared.Event.the-variants as event
+use Rattle.acts.specs.declared.Frames.the-variants as frames
+use Rattle.acts.specs.declared.Step.{Step}
+use Rattle.table.specs.Table.{Table, decodeTable, encodeTable, slots, freeSlot, sound, placed}
+use Rattle.turn.specs.declared.Refusal.{Refusal}
+use Rattle.turn.specs.declared.Refusal.the-variants as why
+use Rattle.turn.specs.declared.Outcome.{Outcome}
+use Rattle.turn.specs.declared.Outcome.the-variants as outcome
+use Rattle.turn.specs.declared.Answer.{Answer}
+use Rattle.turn.specs.declared.Turn.{Turn}
+use Rattle.turn.specs.declared.Turn.the-variants as turn
+use Rattle.turn.specs.declared.Seat.{Seat}
+use Rattle.turn.specs.declared.Seat.the-variants as seat-is
+
+-- "Causes and numbers, in order of test"
+abbrev pub number : Refusal → ℕ
+number why.Settings = 1
+number why.Form = 2
+number why.Address = 3
+number why.Fresh = 4
+number why.Token = 5
+number why.Verdict = 6
+number why.Body = 7
+number why.Running = 8
+number why.Full = 9
+number why.NoRecord = 10
+number why.Short = 11
+
+-- what a caller gets: 0, or the cause's number
+abbrev pub returned : Outcome → ℕ
+returned outcome.Done = 0
+returned outcome.NoneDue = 0
+returned (outcome.Refused c) = number c
+
+-- "All return the number and no frames."
+unfoldable pub refused : Refusal → Answer
+refused c = record { outcome = outcome.Refused c; event = event.None; frames = frames.None; fresh = 0; address = replicate 6 0 }
+
+-- "or says none is due, the rest of its answer zero"
+unfoldable pub noneDue : Answer
+noneDue = record { outcome = outcome.NoneDue; event = event.None; frames = frames.None; fresh = 0; address = replicate 6 0 }
+
+-- "A step answers: host event; frames to send, in order; stock group used or 0; the address."
+unfoldable pub said : Step → List ℕ → Answer
+said s address = record { outcome = outcome.Done; event = s .event; frames = s .frames; fresh = s .fresh; address = address }
+
+-- "Set up and kill answer event 0, no frames, group 0 and the address given."
+unfoldable pub quiet : List ℕ → Answer
+quiet address = record { outcome = outcome.Done; event = event.None; frames = frames.None; fresh = 0; address = address }
+
+-- ---- what a call answers and the table that it leaves
+
+pub record Left : Type 0 where
+  pub answer : Answer
+  pub table : List ℕ
+
+-- a contract: the answer and the table at exit are those
+pub record Leaves (r : Answer) (u : List ℕ) (l : Left) : Type 0 where
+  pub answer : r ≡ l .answer
+  pub table : u ≡ l .table
+
+-- a refusal leaves every octet
+abbrev pub refuse : List ℕ → Refusal → Left
+refuse t c = record { answer = refused c; table = t }
+
+-- ---- where a record goes: the slot of its address; "a new peer takes the free slot nearest the end"; a record that is not in use, nowhere
+
+abbrev pub seatFree : Found → Seat
+seatFree (found.At k) = seat-is.At k
+seatFree found.Nothing = seat-is.Full
+
+unfoldable pub seat : Table → Found → ℕ → Seat
+seat T (found.At k) used = seat-is.At k
+seat T found.Nothing used = if eqb used 0 then seat-is.Nowhere else seatFree (freeSlot T)
+
+-- the end of every call: the step's record is stored and the counts are made true; "new record needed, no free slot": 9
+unfoldable pub finishBy : Seat → List ℕ → Step → List ℕ → Left
+finishBy (seat-is.At k) t s address = record { answer = said s address; table = encodeTable (placed (decodeTable t) k (s .peer)) }
+finishBy seat-is.Nowhere t s address = record { answer = said s address; table = t }
+finishBy seat-is.Full t s address = refuse t why.Full
+
+unfoldable pub finishes : List ℕ → Found → Step → List ℕ → Left
+finishes t f s address = finishBy (seat (decodeTable t) f (s .peer .used)) t s address
+
+-- a call about an address: a refusal, or a step of the record that was found
+unfoldable pub turned : Turn → (Found → Step) → List ℕ → List ℕ → Left
+turned (turn.Refused c) g t address = refuse t c
+turned (turn.Go f) g t address = finishes t f (g f) address
+
+-- what `finish` asks: a sound table, and a slot of it
+pub record Seated (t : List ℕ) (f : Found) : Type 0 where
+  pub whole : sound t ≡ true
+  pub below : (k : ℕ) → f ≡ found.At k → k < slots (decodeTable t)

@@ -1,0 +1,179 @@
+// What all calls share: the numbered refusals, the answer, where a record goes, and the end of every call.
+ghost use mathlib.Core.Path.{_≡_};
+ghost use mathlib.Core.Bool.{true};
+ghost use Rattle.table.specs.Table.{decodeTable, sound, lookBy};
+ghost use Rattle.turn.specs.Turn.{number, returned, refused, noneDue, said, quiet, Leaves, seat, finishes, Seated};
+use acts::Event;
+use acts::Frames;
+use acts::Step;
+use octets::Found;
+use record::Peer;
+
+// The causes of a refusal, in the order of their numbers.
+pub enum Refusal {
+    Settings,
+    Form,
+    Address,
+    Fresh,
+    Token,
+    Verdict,
+    Body,
+    Running,
+    Full,
+    NoRecord,
+    Short,
+}
+
+// How a call came out.
+pub enum Outcome {
+    Done,
+    NoneDue,
+    Refused(Refusal),
+}
+
+// What a call answers.
+pub struct Answer {
+    pub outcome: Outcome,
+    pub event: Event,
+    pub frames: Frames,
+    pub fresh: u16,
+    pub address: [u8; 6],
+}
+
+// Whether a call may go on, and with which slot.
+pub enum Turn {
+    Refused(Refusal),
+    Go(Found),
+}
+
+// Where a record goes.
+pub enum Seat {
+    At(usize),
+    Nowhere,
+    Full,
+}
+
+// The number of a cause.
+pub fn number_of(c: Refusal) -> u32
+    ensures { λ r. ⌜ r ≡ number c ⌝ }
+{
+    match c {
+        Refusal::Settings => 1,
+        Refusal::Form => 2,
+        Refusal::Address => 3,
+        Refusal::Fresh => 4,
+        Refusal::Token => 5,
+        Refusal::Verdict => 6,
+        Refusal::Body => 7,
+        Refusal::Running => 8,
+        Refusal::Full => 9,
+        Refusal::NoRecord => 10,
+        Refusal::Short => 11,
+    }
+}
+
+// 0, or the number of the cause.
+pub fn returned_of(o: Outcome) -> u32
+    ensures { λ r. ⌜ r ≡ returned o ⌝ }
+{
+    match o {
+        Outcome::Done => 0,
+        Outcome::NoneDue => 0,
+        Outcome::Refused(c) => number_of(c),
+    }
+}
+
+pub fn refuse_with(c: Refusal) -> Answer
+    ensures { λ r. ⌜ r ≡ refused c ⌝ }
+{
+    Answer {
+        outcome: Outcome::Refused(c),
+        event: Event::None,
+        frames: Frames::None,
+        fresh: 0,
+        address: [0u8; 6],
+    }
+}
+
+pub fn none_due() -> Answer
+    ensures { λ r. ⌜ r ≡ noneDue ⌝ }
+{
+    Answer {
+        outcome: Outcome::NoneDue,
+        event: Event::None,
+        frames: Frames::None,
+        fresh: 0,
+        address: [0u8; 6],
+    }
+}
+
+pub fn say(s: Step, address: [u8; 6]) -> Answer
+    ensures { λ r. ⌜ r ≡ said s address ⌝ }
+{
+    let event = s.event;
+    let frames = s.frames;
+    Answer {
+        outcome: Outcome::Done,
+        event: event,
+        frames: frames,
+        fresh: s.fresh,
+        address: address,
+    }
+}
+
+pub fn say_nothing(address: [u8; 6]) -> Answer
+    ensures { λ r. ⌜ r ≡ quiet address ⌝ }
+{
+    Answer {
+        outcome: Outcome::Done,
+        event: Event::None,
+        frames: Frames::None,
+        fresh: 0,
+        address: address,
+    }
+}
+
+fn seat_of(t: &[u8], f: Found, used: u8) -> Seat
+    requires { ⌜ sound (now t) ≡ true ⌝ }
+    ensures { λ r. ⌜ r ≡ seat (decodeTable (now (t .entry))) f used ⌝ }
+{
+    match f {
+        Found::At(k) => Seat::At(k),
+        Found::Nothing => {
+            if used == 0 {
+                return Seat::Nowhere;
+            }
+            match table::free_slot(t) {
+                Found::At(k) => Seat::At(k),
+                Found::Nothing => Seat::Full,
+            }
+        }
+    }
+}
+
+// The end of every call: the step's record is stored and counted; cause 9.
+pub fn finish(t: &mut [u8], f: Found, s: Step, address: [u8; 6]) -> Answer
+    requires { ⌜ Seated (now t) f ⌝ }
+    ensures { λ r. ⌜ Leaves r (now (t .exit)) (finishes (now (t .entry)) f s address) ⌝ }
+{
+    let p = s.peer;
+    match seat_of(t, f, p.used) {
+        Seat::At(k) => {
+            table::place(t, k, p);
+            say(s, address)
+        }
+        Seat::Nowhere => say(s, address),
+        Seat::Full => refuse_with(Refusal::Full),
+    }
+}
+
+// The record that a call is about; the free one where the address has none.
+pub fn load_of(t: &[u8], f: Found) -> Peer
+    requires { ⌜ Seated (now t) f ⌝ }
+    ensures { λ r. ⌜ r ≡ lookBy (decodeTable (now (t .entry))) f ⌝ }
+{
+    match f {
+        Found::At(k) => table::load_peer(t, k),
+        Found::Nothing => record::no_peer(),
+    }
+}

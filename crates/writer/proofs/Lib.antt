@@ -1,0 +1,3 @@
+-- The crate's laws and what holds of every frame written.
+pub mod Laws
+pub mod Theorems

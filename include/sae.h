@@ -1,0 +1,225 @@
+/* The SAE peer engine: peer table, states, timers, tokens, and the bodies of Authentication frames.
+ *
+ * The engine keeps nothing of its own and allocates nothing. All it works on is lent for the time of a call: the table, which lives in
+ * memory of the host from one call to the next, and the octets that a call reads or writes. Two calls on one table must not run at the
+ * same time; calls on different tables may.
+ *
+ * Every function returns 0, or the number of the refusal (enum sae_refusal). The causes of a call are tested in the order of their
+ * numbers, and the first one that holds is returned. After a refusal every lent octet is as it was: table, answer, written, out and
+ * parts. No argument makes a call undefined, but for the rules of C: a pointer is not null, also where its length is 0, and points to as
+ * many octets as the length says; nothing that a call may write overlaps anything else that is lent to it.
+ *
+ * Fields of more than one octet are little-endian everywhere. Addresses are six octets, first octet first.
+ */
+#ifndef SAE_H
+#define SAE_H
+
+#include <stddef.h>
+#include <stdint.h>
+
+#ifdef __cplusplus
+extern "C" {
+#endif
+
+/* Lengths, in octets. */
+#define SAE_ADDRESS_LEN 6
+#define SAE_SETTINGS_LEN 16
+#define SAE_ANSWER_LEN 28
+#define SAE_PARTS_LEN 20
+#define SAE_EXPECTED_LEN 32 /* the token that the host expects from a sender */
+#define SAE_VALUE_LEN 32    /* the value of a Confirm */
+#define SAE_COMMIT_LEN 144  /* a stored commit: scalar, element, zeros behind a shorter one */
+#define SAE_TOKEN_LEN 256   /* the longest token */
+#define SAE_FRAME_LEN 408   /* the longest frame body that the writers write */
+#define SAE_HEADER_LEN 32
+#define SAE_RECORD_LEN 864
+
+#define SAE_MAX_SLOTS 64 /* records of a table; the least is 1 */
+#define SAE_MAX_GROUPS 2 /* groups of a list; the least is 1 */
+
+/* The length of a table with so many slots, and of the fresh commits for so many groups. */
+#define SAE_TABLE_LEN(slots) (SAE_HEADER_LEN + (size_t)SAE_RECORD_LEN * (slots))
+#define SAE_FRESH_LEN(groups) ((size_t)SAE_COMMIT_LEN * (groups))
+
+/* Groups: 19 has a scalar of 32 octets and an element of 64, 20 of 48 and 96. */
+#define SAE_GROUP_19 19
+#define SAE_GROUP_20 20
+
+/* Frames. */
+#define SAE_COMMIT 1          /* sequence */
+#define SAE_CONFIRM 2         /* sequence */
+#define SAE_TOKEN_REQUIRED 76 /* status of a Commit */
+#define SAE_GROUP_REFUSED 77  /* status of a Commit */
+
+/* Octet 1 of an answer. */
+enum sae_event {
+    SAE_EVENT_NONE = 0,
+    SAE_EVENT_ACCEPTED = 1,  /* the run became the finished link with this address */
+    SAE_EVENT_ABANDONED = 2, /* the run with this address was given up */
+    SAE_EVENT_LINK_ENDED = 3 /* the finished link with this address ended */
+};
+
+/* What the functions return. */
+enum sae_refusal {
+    SAE_DONE = 0,
+    SAE_REFUSED_SETTINGS = 1,  /* settings, own address or the table's length wrong */
+    SAE_REFUSED_TABLE = 2,     /* the table is not of its form */
+    SAE_REFUSED_ADDRESS = 3,   /* the address is not usable: a group's, zero, or our own */
+    SAE_REFUSED_FRESH = 4,     /* length or tail of the fresh commits wrong */
+    SAE_REFUSED_EXPECTED = 5,  /* the expected token is not 32 octets */
+    SAE_REFUSED_VERIFIED = 6,  /* the verdict is above 1 */
+    SAE_REFUSED_BODY = 7,      /* the frame body is not of the shapes */
+    SAE_REFUSED_RUN = 8,       /* a run with this address is in being */
+    SAE_REFUSED_FULL = 9,      /* a new record is needed and no slot is free */
+    SAE_REFUSED_NO_RECORD = 10, /* the address has no record */
+    SAE_REFUSED_BUFFER = 11    /* the frame is longer than the out buffer */
+};
+
+/* Settings, 16 octets:
+ *    0      number of groups, 1 or 2
+ *    1      0
+ *    2-3    the most preferred group, 19 or 20
+ *    4-5    the other one, or 0
+ *    6-7    0
+ *    8-9    token threshold, 0 to 64: with so many runs open, a Commit of a peer without a run must carry the expected token
+ *    10-15  0
+ * Factory settings are the groups 19 and 20 and the threshold 5. */
+
+/* Answer, 28 octets:
+ *    0      1 if no deadline is due (sae_expire; all else is 0 then), else 0
+ *    1      event (enum sae_event)
+ *    2-3    the group whose fresh commit was used, or 0
+ *    4-9    the address that the answer is about: frames go to it
+ *    10     number of frames to send, 0 to 2, in this order:
+ *    11     0
+ *    12-19  the first frame: sequence, status, group, counter, 2 octets each; zeros if there is none
+ *    20-27  the second frame
+ * A Commit has counter 0 and a Confirm has group 0. sae_write_record writes a frame of status 0, sae_write_parts one of status 76 (its
+ * token is the expected token of the call) or 77. Write the frames before the next call on this table. */
+
+/* Fresh commits, 144 octets for each listed group in the order of the list: scalar, element, zeros. Made by the chip and never used
+ * before. If the answer names a group (octets 2-3), that one is used up; the others may be offered again. */
+
+/* Where things stand in record i, which starts at SAE_HEADER_LEN + SAE_RECORD_LEN * i. The host may look into the table between calls,
+ * to hand the chip the pair of a run or a link; only the engine writes it. A free slot is all zeros. */
+#define SAE_RECORD_IN_USE 0      /* 1 octet, 0 or 1 */
+#define SAE_RECORD_ADDRESS 1     /* 6 octets */
+#define SAE_RECORD_STATE 7       /* 1 octet: no run 0, Committed 1, Confirmed 2 */
+#define SAE_RECORD_SYNC 8        /* 1 octet */
+#define SAE_RECORD_SC 10         /* 2 octets: the counter of the run's last Confirm */
+#define SAE_RECORD_GROUP 12      /* 2 octets: the run's group */
+#define SAE_RECORD_T0 16         /* 4 octets: the run's deadline */
+#define SAE_RECORD_OWN 20        /* a commit: the run's own */
+#define SAE_RECORD_PEER 164      /* a commit: the run's other one, from Confirmed on */
+#define SAE_RECORD_LINK 564      /* 1 octet: finished link, 0 or 1 */
+#define SAE_RECORD_SUPERSEDED 565 /* 1 octet: the link's mark, 1 if a pair was formed since */
+#define SAE_RECORD_LINK_SYNC 566 /* 1 octet */
+#define SAE_RECORD_LINK_GROUP 568 /* 2 octets */
+#define SAE_RECORD_RC 570        /* 2 octets: the counter last taken */
+#define SAE_RECORD_T1 572        /* 4 octets: the link's deadline */
+#define SAE_RECORD_LINK_OWN 576  /* a commit */
+#define SAE_RECORD_LINK_PEER 720 /* a commit */
+
+/* Sets up a table, and clears what it held.
+ *
+ * table, table_len   SAE_TABLE_LEN(slots) octets of any content, slots from 1 to 64
+ * own                the own address: an individual one, not zero
+ * settings           as above
+ * answer             no event, no frames, the own address
+ *
+ * Refuses 1. */
+uint32_t sae_initialize(uint8_t *table, size_t table_len, const uint8_t own[6], const uint8_t settings[16], uint8_t answer[28]);
+
+/* Starts a run with a peer: its Commit in the most preferred group is to be sent. A finished link with it stays.
+ *
+ * table, table_len   a table that sae_initialize set up
+ * address            the peer
+ * now                the clock's reading in milliseconds; it may wrap
+ * fresh, fresh_len   fresh commits, SAE_FRESH_LEN(groups) octets
+ * answer             one Commit to send; its group is the group used
+ *
+ * Refuses 2, 3, 4, 8 and 9. */
+uint32_t sae_initiate(uint8_t *table, size_t table_len, const uint8_t address[6], uint32_t now, const uint8_t *fresh, size_t fresh_len,
+                      uint8_t answer[28]);
+
+/* Ends run and link with a peer and frees its record.
+ *
+ * address            the peer
+ * answer             no event, no frames, the address
+ *
+ * Refuses 2, 3 and 10. */
+uint32_t sae_kill(uint8_t *table, size_t table_len, const uint8_t address[6], uint8_t answer[28]);
+
+/* Takes in a received Authentication frame of algorithm 3.
+ *
+ * address                 the sender
+ * now                     the clock's reading in milliseconds
+ * frame, frame_len        the frame's body
+ * fresh, fresh_len        fresh commits, in case one is needed
+ * expected, expected_len  the token of 32 octets that the host expects from this sender
+ * verified                the chip's verdict, 0 or 1: whether a Commit's scalar and element are valid, or a Confirm's value is right for
+ *                         the pair that it meets (the run's if it is Confirmed, the link's if there is no run); 0 for other frames
+ * answer                  event, frames to send, group used; a frame that is dropped answers none of them
+ *
+ * Refuses 2, 3, 4, 5, 6, 7 and 9. */
+uint32_t sae_receive(uint8_t *table, size_t table_len, const uint8_t address[6], uint32_t now, const uint8_t *frame, size_t frame_len,
+                     const uint8_t *fresh, size_t fresh_len, const uint8_t *expected, size_t expected_len, uint8_t verified,
+                     uint8_t answer[28]);
+
+/* Serves one deadline that is due: the lowest slot's, the retry of a run (t0) before the end of a link (t1). To be called until octet 0
+ * of the answer is 1.
+ *
+ * now                the clock's reading in milliseconds
+ * answer             event and frames to send, or octet 0 is 1 if none is due
+ *
+ * Refuses 2. */
+uint32_t sae_expire(uint8_t *table, size_t table_len, uint32_t now, uint8_t answer[28]);
+
+/* Writes a frame from its parts.
+ *
+ * sequence, status   1 and 0, 1 and 76, 1 and 77, or 2 and 0
+ * group              of a Commit; of one with status 0 a listed group. 0 for a Confirm
+ * counter            of a Confirm. 0 for a Commit
+ * token, token_len   0 to 256 octets for status 0, 1 to 256 for status 76, else none
+ * rest, rest_len     scalar and element for a Commit of status 0, 32 octets of value for a Confirm, else none
+ * out, out_len       the buffer; octets past the frame are not touched
+ * written            the frame's length
+ *
+ * Refuses 2, 7 and 11. */
+uint32_t sae_write_parts(const uint8_t *table, size_t table_len, uint16_t sequence, uint16_t status, uint16_t group, uint16_t counter,
+                         const uint8_t *token, size_t token_len, const uint8_t *rest, size_t rest_len, uint8_t *out, size_t out_len,
+                         uint32_t *written);
+
+/* Writes a frame of a peer's record.
+ *
+ * address            the peer
+ * sequence           1: the Commit of its run, with the stored token. 2: the Confirm of its run in Confirmed, with its counter, or of its
+ *                    link if it has no run, with counter 65,535
+ * value, value_len   the Confirm's value from the chip, 32 octets; for a Commit it is not looked at
+ * out, out_len       the buffer; octets past the frame are not touched
+ * written            the frame's length
+ *
+ * Refuses 2, 3, 7 (no record, no such frame, another sequence, a value of another length) and 11. */
+uint32_t sae_write_record(const uint8_t *table, size_t table_len, const uint8_t address[6], uint16_t sequence, const uint8_t *value,
+                          size_t value_len, uint8_t *out, size_t out_len, uint32_t *written);
+
+/* Reads a frame body with the table's list of groups.
+ *
+ * frame, frame_len   the body
+ * parts              20 octets; what a body does not have is 0:
+ *    0-1    sequence
+ *    2-3    status
+ *    4-5    group
+ *    6-7    counter
+ *    8-11   offset of the token in the frame, 8 in a Commit of a listed group also if the token is empty
+ *    12-15  length of the token
+ *    16-19  offset of the scalar (the element follows it), or of a Confirm's value
+ *
+ * Refuses 2 and 7. */
+uint32_t sae_read(const uint8_t *table, size_t table_len, const uint8_t *frame, size_t frame_len, uint8_t parts[20]);
+
+#ifdef __cplusplus
+}
+#endif
+
+#endif
