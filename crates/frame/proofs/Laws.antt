@@ -48,9 +48,9 @@ module _ (s : List ℕ) (n : ℕ) where
   unfolding tokenOf part
   token-rest h k = sym (part-rest s 8 n h (omega arith))
 
-  pub token-whole : take (8 + n - 8) (drop 8 s) ≡ tokenOf s n
-  unfolding tokenOf part
-  token-whole = let e : 8 + n - 8 ≡ n = omega arith in rw e
+  pub token-whole : (r : List ℕ) → r ≡ part s 8 n → r ≡ tokenOf s n
+  unfolding tokenOf
+  token-whole r e = e
 
 -- scalar and element are one part
 pub commit-is : (s : List ℕ) (g t : ℕ) → commitOf s g t ≡ part s (8 + t) (commitLength g)

@@ -5,3 +5,4 @@ pub mod Drawing
 pub mod Shapes
 pub mod RoundTrip
 pub mod Wrote
+pub mod Calls

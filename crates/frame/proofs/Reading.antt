@@ -9,9 +9,21 @@ use lib.ListN.{length, drop, length-drop}
 use borrow.Author.Tests.{lt-ltb, le-ltb, eq-eqb, ne-eqb}
 use Rattle.groups.specs.Groups.{commitLength, listed}
 use Rattle.octets.specs.Scan.{if_then_else_}
+use Rattle.frame.specs.declared.Head.{Head}
 use Rattle.frame.specs.declared.Body.{Body}
 use Rattle.frame.specs.declared.Body.the-variants.{Commit, Unsupported, TokenRequest, GroupRefusal, OtherCommit, Confirm, OtherConfirm, Malformed}
-use Rattle.frame.specs.Frame.{algorithmOf, sequenceOf, statusOf, groupOf, counterOf, readListed, readOffer, readTokenRequest, readGroupRefusal, readCommit, confirmEnds, readConfirm, readBody}
+use Rattle.frame.specs.Frame.{algorithmOf, sequenceOf, statusOf, headOf, groupOf, counterOf, readListed, readOffer, readTokenRequest, readGroupRefusal, readCommit, confirmEnds, readConfirm, readBody}
+
+-- each number of the three that every body starts with
+module _ (h : Head) (s : List ℕ) (e : h ≡ headOf s) where
+  pub head-algorithm : h .algorithm ≡ algorithmOf s
+  head-algorithm = ap (λ (x : Head). x .algorithm) e
+
+  pub head-sequence : h .sequence ≡ sequenceOf s
+  head-sequence = ap (λ (x : Head). x .sequence) e
+
+  pub head-status : h .status ≡ statusOf s
+  head-status = ap (λ (x : Head). x .status) e
 
 module _ (g : ℕ) (s : List ℕ) (m : ℕ) (e : m ≡ commitLength g) where
   pub listed-short : length s < 8 + m → Malformed ≡ readListed g s

@@ -7,6 +7,7 @@ use lib.ListN.{length, drop}
 use Rattle.octets.specs.Octets.{part, num, oct}
 use Rattle.octets.specs.Scan.{if_then_else_}
 use Rattle.groups.specs.Groups.{scalarLength, elementLength, commitLength, listed}
+use Rattle.frame.specs.declared.Head.{Head}
 use Rattle.frame.specs.declared.Body.{Body}
 use Rattle.frame.specs.declared.Body.the-variants.{Commit, Unsupported, TokenRequest, GroupRefusal, OtherCommit, Confirm, OtherConfirm, Malformed}
 
@@ -23,6 +24,10 @@ sequenceOf s = field s 2
 
 abbrev pub statusOf : List ℕ → ℕ
 statusOf s = field s 4
+
+-- the three numbers that every body starts with
+abbrev pub headOf : List ℕ → Head
+headOf s = record { algorithm = algorithmOf s; sequence = sequenceOf s; status = statusOf s }
 
 abbrev pub groupOf : List ℕ → ℕ
 groupOf s = field s 6

@@ -1,10 +1,10 @@
 // Authentication frame bodies: the reader, the parts of a body that was read, and the writers.
 ghost use mathlib.Core.Path.{_≡_};
-ghost use Prim.Native.Nat.{_+_, _≤_};
+ghost use Prim.Native.Nat.{_+_, _-_, _≤_};
 ghost use lib.ListN.{length};
 ghost use Rattle.groups.specs.Groups.{stored};
-ghost use Rattle.octets.specs.Octets.{put, oct};
-ghost use Rattle.frame.specs.Frame.{readBody, readCommit, readOffer, readListed, readTokenRequest, readGroupRefusal, readConfirm, tokenOf, commitOf, body, head};
+ghost use Rattle.octets.specs.Octets.{part, put, num, oct};
+ghost use Rattle.frame.specs.Frame.{readBody, readCommit, readOffer, readListed, readTokenRequest, readGroupRefusal, readConfirm, tokenOf, commitOf, body, head, headOf};
 ghost use Rattle.frame.specs.Writing.{Writes, Octets, drawCommit, drawTokenRequest, drawGroupRefusal, drawConfirm, drawCommits, drawConfirms, partsBody};
 use groups::COMMIT;
 
@@ -59,6 +59,104 @@ pub enum Written {
     Length(usize),
     Shape,
     Short,
+}
+
+// "A frame reader carries the received octets and the offset reached."
+pub struct Reader<'a> {
+    pub frame: &'a [u8],
+    pub at: usize,
+}
+
+// The three numbers that every body starts with.
+pub struct Head {
+    pub algorithm: u16,
+    pub sequence: u16,
+    pub status: u16,
+}
+
+// The n octets of a slice from an offset, as the caller's own.
+fn part_of<'a>(s: &'a [u8], at: usize, n: usize) -> &'a [u8]
+    requires { ⌜ at + n ≤ length (now s) ⌝ }
+    ensures { λ r. ⌜ now r ≡ part (now (s .entry)) at n ⌝ }
+{
+    let end = at + n;
+    &s[at..end]
+}
+
+// How many octets a slice has from an offset on; none lie past the end.
+fn rest_of(s: &[u8], at: usize) -> usize
+    ensures { λ r. ⌜ r ≡ length (now (s .entry)) - at ⌝ }
+{
+    let all = s.len();
+    if all < at {
+        return 0;
+    }
+    all - at
+}
+
+// A reader at the start of a frame.
+pub fn begin<'a>(frame: &'a [u8]) -> Reader<'a>
+    ensures { λ r. ⌜ (r .frame ≡ frame .entry) × (r .at ≡ 0) ⌝ }
+{
+    Reader { frame, at: 0 }
+}
+
+// The field of two octets at the offset reached.
+fn take16<'a>(r: Reader<'a>) -> u16
+    requires { ⌜ r .at + 2 ≤ length (now (r .frame)) ⌝ }
+    ensures { λ n. ⌜ n ≡ num (part (now (r .entry .frame)) (r .entry .at) 2) ⌝ }
+{
+    octets::get16(r.frame, r.at)
+}
+
+// The reader n octets further on.
+fn moved<'a>(r: Reader<'a>, n: usize) -> Reader<'a>
+    requires { ⌜ r .at + n ≤ length (now (r .frame)) ⌝ }
+    ensures { λ q. ⌜ (q .frame ≡ r .entry .frame) × (q .at ≡ r .entry .at + n) ⌝ }
+{
+    let at = r.at + n;
+    Reader { frame: r.frame, at }
+}
+
+// The part of n octets at the offset reached.
+fn taken<'a>(r: Reader<'a>, n: usize) -> &'a [u8]
+    requires { ⌜ r .at + n ≤ length (now (r .frame)) ⌝ }
+    ensures { λ s. ⌜ now s ≡ part (now (r .entry .frame)) (r .entry .at) n ⌝ }
+{
+    part_of(r.frame, r.at, n)
+}
+
+// How many octets are left from the offset reached on.
+pub fn left<'a>(r: Reader<'a>) -> usize
+    ensures { λ n. ⌜ n ≡ length (now (r .entry .frame)) - r .entry .at ⌝ }
+{
+    rest_of(r.frame, r.at)
+}
+
+// Algorithm, sequence and status, one after another.
+fn head_of(frame: &[u8]) -> Head
+    requires { ⌜ 6 ≤ length (now frame) ⌝ }
+    ensures { λ h. ⌜ h ≡ headOf (now (frame .entry)) ⌝ }
+{
+    let r = begin(frame);
+    let a = take16(r);
+    let r1 = moved(r, 2);
+    let b = take16(r1);
+    let r2 = moved(r1, 2);
+    let c = take16(r2);
+    Head {
+        algorithm: a,
+        sequence: b,
+        status: c,
+    }
+}
+
+// The token of n octets that stands at an offset.
+fn token(frame: &[u8], at: usize, n: usize) -> &[u8]
+    requires { ⌜ at + n ≤ length (now frame) ⌝ }
+    ensures { λ s. ⌜ now s ≡ part (now (frame .entry)) at n ⌝ }
+{
+    taken(moved(begin(frame), at), n)
 }
 
 // "The token is what the length leaves over", 0 to 256 octets.
@@ -165,11 +263,12 @@ pub fn read(groups: &[u16], frame: &[u8]) -> Body
     if LONGEST < frame.len() {
         return Body::Malformed;
     }
-    let algorithm = octets::get16(frame, 0);
+    let head = head_of(frame);
+    let algorithm = head.algorithm;
+    let sequence = head.sequence;
     if algorithm != SAE {
         return Body::Malformed;
     }
-    let sequence = octets::get16(frame, 2);
     if sequence == COMMITS {
         return read_commit(groups, frame);
     }
@@ -190,8 +289,7 @@ pub fn token_of(frame: &[u8], n: usize) -> &[u8]
     if all - HEAD < n {
         return &frame[HEAD..all];
     }
-    let end = HEAD + n;
-    &frame[HEAD..end]
+    token(frame, HEAD, n)
 }
 
 // The stored form of a Commit's scalar and element, as many of their octets as there are.

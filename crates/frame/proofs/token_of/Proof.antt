@@ -25,20 +25,11 @@ part-result-end-2 c = search needs
 returns-2 : tie.Need-returns-2
 returns-2 c = token-rest _ _ (c .before .before .if1 .left) (c .before .if2 .taken)
 
-add-end : tie.Need-add-end
-add-end c = search needs
-
-sub-result-2 : tie.Need-sub-result-2
-sub-result-2 c = search needs
-
-part-result-start-3 : tie.Need-part-result-start-3
-part-result-start-3 c = search needs
-
-part-result-end-3 : tie.Need-part-result-end-3
-part-result-end-3 c = search needs
+token-requires : tie.Need-token-requires
+token-requires c κs = search needs
 
 returns-3 : tie.Need-returns-3
-returns-3 c = token-whole _ _
+returns-3 c = token-whole _ _ _ (c .token .ensures)
 
 pub token-of-spec : {M : Type 1} → statement M
 token-of-spec =
@@ -51,8 +42,5 @@ token-of-spec =
     part-result-start-2
     part-result-end-2
     returns-2
-    add-end
-    sub-result-2
-    part-result-start-3
-    part-result-end-3
+    token-requires
     returns-3)

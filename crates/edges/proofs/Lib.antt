@@ -1,0 +1,2 @@
+-- The theorem over the whole table of edges.
+pub mod Edges

@@ -1,0 +1,2 @@
+-- The table of edges.
+pub mod Edges
