@@ -1,10 +1,27 @@
-// The acts that the rules are made of, on a peer's record by value, and the clock.
+// The acts that the rules are made of, in a record's own octets, and the clock.
 ghost use mathlib.Core.Path.{_≡_};
 ghost use Prim.Native.Nat.{_+_, _≤_, _<_};
-ghost use Rattle.acts.specs.Acts.{factory, commitFrame, tokenRequestFrame, groupRefusalFrame, confirmFrame, delay, deadline, due, t0Due, t1Due, counting, setT0, sending, answering, settled, abandoning, retransmitting, dropping, supersede, formedRun, forming, linkOfRun, accepting, endingLink};
+ghost use lib.ListN.{length};
+ghost use Rattle.groups.specs.Groups.{width};
+ghost use Rattle.record.specs.Layout.{decodeRun, decodeLink, decodePeer, runSize, linkSize, recordSize};
+ghost use Rattle.acts.specs.Acts.{factory, commitFrame, tokenRequestFrame, groupRefusalFrame, confirmFrame, delay, deadline, due, t0Due, counting, setT0, sending, abandoning, retransmitting, dropping, supersede, formedRun, forming, linkOfRun, accepting, endingLink};
+ghost use Rattle.acts.specs.Said.{sayingFrames, sayingEvent, Does};
+use fields::FINISHED;
+use fields::GROUP;
+use fields::REJECTED;
+use fields::SC;
+use fields::STATE;
+use fields::SUPERSEDED;
+use fields::SYNC;
+use fields::T0;
 use groups::COMMIT;
+use record::LINK;
 use record::Link;
 use record::Peer;
+use record::RECORD;
+use record::RUN;
+use record::RUN_OWN;
+use record::RUN_PEER;
 use record::Run;
 use record::Settings;
 
@@ -31,13 +48,21 @@ pub enum Frames {
     Two(Frame, Frame),
 }
 
-// What a rule makes of a record, and says: the group of the fresh commit used, or 0, and whether it was a drop.
+// What a rule makes of a record, and says: the group of the fresh commit used, or 0, and whether it was a drop. The rules are defined with it;
+// the code leaves the record in its octets and answers the rest.
 pub struct Step {
     pub peer: Peer,
     pub event: Event,
     pub frames: Frames,
     pub fresh: u16,
     pub dropped: bool,
+}
+
+// What a rule says beside the record that it leaves.
+pub struct Said {
+    pub event: Event,
+    pub frames: Frames,
+    pub fresh: u16,
 }
 
 // The delays before t0, by Sync.
@@ -101,20 +126,14 @@ pub fn is_due(time: u32, at: u32) -> bool
     gone < HALF
 }
 
-pub fn t0_due(p: Peer, time: u32) -> bool
-    ensures { λ r. ⌜ r ≡ t0Due p time ⌝ }
+pub fn t0_due(s: &[u8], time: u32) -> bool
+    requires { ⌜ length (now s) ≡ recordSize width ⌝ }
+    ensures { λ r. ⌜ r ≡ t0Due (decodePeer width (now (s .entry))) time ⌝ }
 {
-    let run = p.run;
-    let due = is_due(time, run.t0);
-    (run.state != 0) & due
-}
-
-pub fn t1_due(p: Peer, time: u32) -> bool
-    ensures { λ r. ⌜ r ≡ t1Due p time ⌝ }
-{
-    let link = p.link;
-    let due = is_due(time, link.t1);
-    (link.finished != 0) & due
+    let state = fields::state_of(s);
+    let at = fields::t0_of(s);
+    let due = is_due(time, at);
+    (state != 0) & due
 }
 
 fn delay_of(sync: u8) -> u32
@@ -130,198 +149,76 @@ fn after(time: u32, wait: u32) -> u32
     std::num::wrapping_add_u32(time, wait)
 }
 
+// The deadline that "Set t0" sets.
+pub fn t0_at(time: u32, sync: u8) -> u32
+    requires { ⌜ sync ≤ 6 ⌝ }
+    ensures { λ r. ⌜ r ≡ deadline time (delay factory sync) ⌝ }
+{
+    after(time, delay_of(sync))
+}
+
+// ---- in the run's octets
+
 // "Set t0".
-pub fn set_t0(r: Run, time: u32) -> Run
-    requires { ⌜ r .sync ≤ 6 ⌝ }
-    ensures { λ x. ⌜ x ≡ setT0 factory r time ⌝ }
+fn set_t0(r: &mut [u8], time: u32)
+    requires { ⌜ (length (now r) ≡ runSize width) × (decodeRun width (now r) .sync ≤ 6) ⌝ }
+    ensures { λ _. ⌜ decodeRun width (now (r .exit)) ≡ setT0 factory (decodeRun width (now (r .entry))) time ⌝ }
 {
-    let mut q = r;
-    q.t0 = after(time, delay_of(r.sync));
-    q
+    let sync = octets::get8(r, SYNC);
+    let at = t0_at(time, sync);
+    octets::put32(r, T0, at);
 }
 
-// Frames are sent for a run, and t0 is set.
-pub fn sent(p: Peer, r: Run, frames: Frames, fresh: u16, time: u32) -> Step
-    requires { ⌜ r .sync ≤ 6 ⌝ }
-    ensures { λ x. ⌜ x ≡ sending factory p r frames fresh time ⌝ }
+// Another Sync and Sc, and t0 set.
+fn count_run(r: &mut [u8], sync: u8, sc: u16, time: u32)
+    requires { ⌜ (length (now r) ≡ runSize width) × (sync ≤ 6) ⌝ }
+    ensures { λ _. ⌜ decodeRun width (now (r .exit)) ≡ setT0 factory (counting (decodeRun width (now (r .entry))) sync sc) time ⌝ }
 {
-    let run = set_t0(r, time);
-    let mut q = p;
-    q.run = run;
-    Step {
-        peer: q,
-        event: Event::None,
-        frames: frames,
-        fresh: fresh,
-        dropped: false,
-    }
+    let at = t0_at(time, sync);
+    octets::put8(r, SYNC, sync);
+    octets::put16(r, SC, sc);
+    octets::put32(r, T0, at);
 }
 
-// A frame is answered and nothing in the record changes.
-pub fn answered(p: Peer, frames: Frames) -> Step
-    ensures { λ x. ⌜ x ≡ answering p frames ⌝ }
+// The run of "Form": its token stays. The own commit is stored first, so that it is copied once.
+fn form_run(r: &mut [u8], group: u16, own: [u8; COMMIT], theirs: [u8; COMMIT], time: u32)
+    requires { ⌜ length (now r) ≡ runSize width ⌝ }
+    ensures { λ _. ⌜ decodeRun width (now (r .exit)) ≡ formedRun factory (decodeRun width (now (r .entry))) group own theirs time ⌝ }
 {
-    Step {
-        peer: p,
-        event: Event::None,
-        frames: frames,
-        fresh: 0,
-        dropped: false,
-    }
+    let at = t0_at(time, 0);
+    groups::put_commit(r, RUN_OWN, own);
+    octets::put8(r, STATE, 2);
+    octets::put8(r, SYNC, 0);
+    octets::put8(r, REJECTED, 0);
+    octets::put16(r, SC, 1);
+    octets::put16(r, GROUP, group);
+    octets::put32(r, T0, at);
+    groups::put_commit(r, RUN_PEER, theirs);
 }
 
-// A record with neither run nor link is freed.
-pub fn settle(p: Peer) -> Peer
-    ensures { λ x. ⌜ x ≡ settled p ⌝ }
-{
-    let run = p.run;
-    let link = p.link;
-    if run.state != 0 {
-        return p;
-    }
-    if link.finished != 0 {
-        return p;
-    }
-    record::no_peer()
-}
-
-// "Give up".
-pub fn abandon(p: Peer) -> Step
-    ensures { λ x. ⌜ x ≡ abandoning p ⌝ }
-{
-    let run = record::no_run();
-    let mut q = p;
-    q.run = run;
-    let peer = settle(q);
-    Step {
-        peer: peer,
-        event: Event::Abandoned,
-        frames: Frames::None,
-        fresh: 0,
-        dropped: false,
-    }
-}
-
-// A run with another Sync and Sc.
-pub fn counted_run(r: Run, sync: u8, sc: u16) -> Run
-    ensures { λ x. ⌜ x ≡ counting r sync sc ⌝ }
-{
-    let mut q = r;
-    q.sync = sync;
-    q.sc = sc;
-    q
-}
-
-// "Repeat", with the Sc that the run then has.
-pub fn retransmit(p: Peer, sc: u16, frames: Frames, time: u32) -> Step
-    ensures { λ x. ⌜ x ≡ retransmitting factory p sc frames time ⌝ }
-{
-    let run = p.run;
-    let sync = run.sync;
-    if sync > Settings::SYNC_LIMIT {
-        return abandon(p);
-    }
-    let raised = counted_run(run, sync + 1, sc);
-    sent(p, raised, frames, 0, time)
-}
-
-// "Drop".
-pub fn drop_frame(p: Peer, time: u32) -> Step
-    requires { ⌜ p .run .sync ≤ 6 ⌝ }
-    ensures { λ x. ⌜ x ≡ dropping factory p time ⌝ }
-{
-    let run = p.run;
-    if run.state == 0 {
-        return Step {
-            peer: p,
-            event: Event::None,
-            frames: Frames::None,
-            fresh: 0,
-            dropped: true,
-        };
-    }
-    let later = set_t0(run, time);
-    let mut q = p;
-    q.run = later;
-    Step {
-        peer: q,
-        event: Event::None,
-        frames: Frames::None,
-        fresh: 0,
-        dropped: true,
-    }
-}
+// ---- in the link's octets
 
 // A finished link's mark becomes 1.
-pub fn superseded_link(l: Link) -> Link
-    ensures { λ x. ⌜ x ≡ supersede l ⌝ }
+fn supersede_link(l: &mut [u8])
+    requires { ⌜ length (now l) ≡ linkSize width ⌝ }
+    ensures { λ _. ⌜ decodeLink width (now (l .exit)) ≡ supersede (decodeLink width (now (l .entry))) ⌝ }
 {
-    if l.finished == 0 {
-        return l;
+    let finished = octets::get8(l, FINISHED);
+    if finished == 0 {
+        return;
     }
-    let mut q = l;
-    q.superseded = 1;
-    q
+    octets::put8(l, SUPERSEDED, 1);
 }
 
-fn formed_run(r: Run, group: u16, own: [u8; COMMIT], theirs: [u8; COMMIT], time: u32) -> Run
-    ensures { λ x. ⌜ x ≡ formedRun factory r group own theirs time ⌝ }
-{
-    let token = r.token;
-    let run = Run {
-        state: 2,
-        sync: 0,
-        rejected: 0,
-        sc: 1,
-        group: group,
-        toklen: r.toklen,
-        t0: r.t0,
-        own: own,
-        peer: theirs,
-        token: token,
-    };
-    set_t0(run, time)
-}
-
-// "Form".
-pub fn form_pair(
-    p: Peer,
-    address: [u8; 6],
-    group: u16,
-    own: [u8; COMMIT],
-    theirs: [u8; COMMIT],
-    frames: Frames,
-    fresh: u16,
-    time: u32,
-) -> Step
-    ensures { λ x. ⌜ x ≡ forming factory p address group own theirs frames fresh time ⌝ }
-{
-    let old = p.run;
-    let run = formed_run(old, group, own, theirs, time);
-    let before = p.link;
-    let link = superseded_link(before);
-    let peer = Peer {
-        used: 1,
-        address: address,
-        run: run,
-        link: link,
-    };
-    Step {
-        peer: peer,
-        event: Event::None,
-        frames: frames,
-        fresh: fresh,
-        dropped: false,
-    }
-}
-
-fn link_of_run(r: Run, counter: u16, time: u32) -> Link
-    ensures { λ x. ⌜ x ≡ linkOfRun r counter time ⌝ }
+// The link that a run becomes.
+fn store_linked(l: &mut [u8], r: Run, counter: u16, time: u32)
+    requires { ⌜ length (now l) ≡ linkSize width ⌝ }
+    ensures { λ _. ⌜ decodeLink width (now (l .exit)) ≡ linkOfRun r counter time ⌝ }
 {
     let t1 = after(time, LIFETIME);
     let own = r.own;
     let peer = r.peer;
-    Link {
+    let link = Link {
         finished: 1,
         superseded: 0,
         sync: r.sync,
@@ -331,41 +228,128 @@ fn link_of_run(r: Run, counter: u16, time: u32) -> Link
         t1: t1,
         own: own,
         peer: peer,
+    };
+    record::store_link(l, link);
+}
+
+// ---- in the record's octets
+
+// Frames, no event and no fresh commit.
+pub fn say_frames(frames: Frames) -> Said
+    ensures { λ x. ⌜ x ≡ sayingFrames frames ⌝ }
+{
+    Said {
+        event: Event::None,
+        frames: frames,
+        fresh: 0,
+    }
+}
+
+// An event and nothing else.
+fn say_event(event: Event) -> Said
+    ensures { λ x. ⌜ x ≡ sayingEvent event ⌝ }
+{
+    Said {
+        event: event,
+        frames: Frames::None,
+        fresh: 0,
+    }
+}
+
+// Frames are sent for a run with another Sync and Sc, and t0 is set.
+pub fn send_counted(s: &mut [u8], sync: u8, sc: u16, frames: Frames, time: u32) -> Said
+    requires { ⌜ (length (now s) ≡ recordSize width) × (sync ≤ 6) ⌝ }
+    ensures { λ x. ⌜ Does x (now (s .exit)) (sending factory (decodePeer width (now (s .entry))) (counting (decodePeer width (now (s .entry)) .run) sync sc) frames 0 time) ⌝ }
+{
+    count_run(&mut s[RUN..LINK], sync, sc, time);
+    say_frames(frames)
+}
+
+// "Give up". A record with no link is freed.
+pub fn abandon(s: &mut [u8]) -> Said
+    requires { ⌜ length (now s) ≡ recordSize width ⌝ }
+    ensures { λ x. ⌜ Does x (now (s .exit)) (abandoning (decodePeer width (now (s .entry)))) ⌝ }
+{
+    let finished = fields::finished_of(s);
+    if finished == 0 {
+        fields::clear(s);
+        return say_event(Event::Abandoned);
+    }
+    fields::clear(&mut s[RUN..LINK]);
+    say_event(Event::Abandoned)
+}
+
+// "Repeat", with the Sc that the run then has.
+pub fn retransmit(s: &mut [u8], sc: u16, frames: Frames, time: u32) -> Said
+    requires { ⌜ length (now s) ≡ recordSize width ⌝ }
+    ensures { λ x. ⌜ Does x (now (s .exit)) (retransmitting factory (decodePeer width (now (s .entry))) sc frames time) ⌝ }
+{
+    let sync = fields::sync_of(s);
+    if sync > Settings::SYNC_LIMIT {
+        return abandon(s);
+    }
+    send_counted(s, sync + 1, sc, frames, time)
+}
+
+// "Drop".
+pub fn drop_frame(s: &mut [u8], time: u32) -> Said
+    requires { ⌜ (length (now s) ≡ recordSize width) × (decodePeer width (now s) .run .sync ≤ 6) ⌝ }
+    ensures { λ x. ⌜ Does x (now (s .exit)) (dropping factory (decodePeer width (now (s .entry))) time) ⌝ }
+{
+    let state = fields::state_of(s);
+    if state == 0 {
+        return say_frames(Frames::None);
+    }
+    set_t0(&mut s[RUN..LINK], time);
+    say_frames(Frames::None)
+}
+
+// "Form".
+pub fn form_pair(
+    s: &mut [u8],
+    address: [u8; 6],
+    group: u16,
+    own: [u8; COMMIT],
+    theirs: [u8; COMMIT],
+    frames: Frames,
+    fresh: u16,
+    time: u32,
+) -> Said
+    requires { ⌜ length (now s) ≡ recordSize width ⌝ }
+    ensures { λ x. ⌜ Does x (now (s .exit)) (forming factory (decodePeer width (now (s .entry))) address group own theirs frames fresh time) ⌝ }
+{
+    form_run(&mut s[RUN..LINK], group, own, theirs, time);
+    supersede_link(&mut s[LINK..RECORD]);
+    octets::put8(s, 0, 1);
+    octets::put6(s, 1, address);
+    Said {
+        event: Event::None,
+        frames: frames,
+        fresh: fresh,
     }
 }
 
 // The run becomes the link.
-pub fn accept(p: Peer, counter: u16, time: u32) -> Step
-    ensures { λ x. ⌜ x ≡ accepting p counter time ⌝ }
+pub fn accept(s: &mut [u8], counter: u16, time: u32) -> Said
+    requires { ⌜ length (now s) ≡ recordSize width ⌝ }
+    ensures { λ x. ⌜ Does x (now (s .exit)) (accepting (decodePeer width (now (s .entry))) counter time) ⌝ }
 {
-    let run = p.run;
-    let link = link_of_run(run, counter, time);
-    let none = record::no_run();
-    let mut q = p;
-    q.run = none;
-    q.link = link;
-    Step {
-        peer: q,
-        event: Event::Accepted,
-        frames: Frames::None,
-        fresh: 0,
-        dropped: false,
-    }
+    let run = record::load_run(&s[RUN..LINK]);
+    store_linked(&mut s[LINK..RECORD], run, counter, time);
+    fields::clear(&mut s[RUN..LINK]);
+    say_event(Event::Accepted)
 }
 
-// The link ends; a run stays.
-pub fn end_link(p: Peer) -> Step
-    ensures { λ x. ⌜ x ≡ endingLink p ⌝ }
+// The link ends; a run stays. A record with no run is freed.
+pub fn end_link(s: &mut [u8]) -> Said
+    requires { ⌜ length (now s) ≡ recordSize width ⌝ }
+    ensures { λ x. ⌜ Does x (now (s .exit)) (endingLink (decodePeer width (now (s .entry)))) ⌝ }
 {
-    let link = record::no_link();
-    let mut q = p;
-    q.link = link;
-    let peer = settle(q);
-    Step {
-        peer: peer,
-        event: Event::Ended,
-        frames: Frames::None,
-        fresh: 0,
-        dropped: false,
+    let state = fields::state_of(s);
+    if state == 0 {
+        fields::clear(s);
+        return say_event(Event::Ended);
     }
+    fields::clear(&mut s[LINK..RECORD]);
+    say_event(Event::Ended)
 }

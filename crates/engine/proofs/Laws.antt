@@ -1,20 +1,20 @@
 -- Laws of the calls: what each function's cases show of their definitions.
 use mathlib.Core.Path.{_≡_, refl, sym, ap, _∙_, subst}
 use mathlib.Core.Logic.{_⊎_, inl, inr}
-use mathlib.Core.Bool.{Bool, true, false, not, _&&_, _||_}
+use mathlib.Core.Bool.{Bool, true, false, not}
 use mathlib.Core.List.{List}
-use Prim.Native.Nat.{ℕ, _+_, _*_, _≤_, _<_}
+use Prim.Native.Nat.{ℕ, _≤_, _<_}
 use native.Mathlib.Omega.{arith}
 use native.Mathlib.Decide.{ℕ-discrete}
 use lib.Dec.{eqb, ltb, lit≤}
-use lib.ListN.{length, take, getD}
-use borrow.Author.Tests.{eqb-true, eq-eqb, ne-eqb, not-true, not-false, lt-ltb, le-ltb}
+use lib.ListN.{length, take}
+use borrow.Author.Tests.{eq-eqb, ne-eqb, not-true, not-false, lt-ltb, le-ltb}
 use Rattle.octets.specs.Octets.{Bytes}
 use Rattle.octets.specs.Scan.{if_then_else_}
 use Rattle.octets.proofs.Scan.{first-at}
 use Rattle.octets.specs.declared.Found.{Found}
 use Rattle.octets.specs.declared.Found.the-variants as found
-use Rattle.groups.specs.Groups.{width, freshAt}
+use Rattle.groups.specs.Groups.{width}
 use Rattle.form.specs.Form.{headerOk, runOk, peerOk}
 use Rattle.form.proofs.Laws.{header-form, groups-form, groups-length, run-states, run-is-committed, run-is-confirmed, run-unused, peer-in-use, peer-unused}
 use Rattle.frame.specs.Frame.{readBody}
@@ -27,17 +27,14 @@ use Rattle.record.specs.declared.Run.{Run}
 use Rattle.record.specs.declared.Settings.{Settings}
 use Rattle.record.specs.Layout.{groupsOf, noPeer, noRun, decodeHeader, headerOf}
 use Rattle.record.proofs.Laws.{ShapeRun, ShapePeer, shape-peer}
-use Rattle.table.specs.Table.{Table, size, decodeTable, slots, slot, lookBy, sound, entry}
+use Rattle.table.specs.Table.{Table, decodeTable, slots, slot, lookBy, sound, entry}
 use Rattle.table.specs.Fresh.{freshOk, initial}
 use Rattle.table.specs.declared.Entry.{Entry}
 use Rattle.table.specs.declared.Entry.the-variants.{Unsound, Unusable, Absent, At}
-use Rattle.table.proofs.Laws.{sound-header, sound-peer, sound-whole, peers-held, ready}
+use Rattle.table.proofs.Laws.{sound-header, sound-peer, sound-whole, peers-held}
 use Rattle.table.proofs.Fit.{fit-slot, fit-decoded}
-use Rattle.acts.specs.Acts.{_is_, _isnt_, factory}
-use Rattle.acts.specs.declared.Step.{Step}
-use Rattle.machine.specs.declared.Received.{Received}
-use Rattle.machine.specs.Rules.{onStart, onCommit, onConfirm, onExpired}
-use Rattle.turn.specs.declared.Refusal.{Refusal}
+use Rattle.acts.specs.Acts.{_is_, factory}
+use Rattle.machine.specs.Rules.{onExpired}
 use Rattle.turn.specs.declared.Refusal.the-variants as why
 use Rattle.turn.specs.declared.Answer.{Answer}
 use Rattle.turn.specs.declared.Turn.{Turn}
@@ -45,9 +42,9 @@ use Rattle.turn.specs.declared.Turn.the-variants.{Refused, Go}
 use Rattle.turn.specs.Turn.{Left, Leaves, Seated, refused, quiet, noneDue, finishes}
 use Rattle.turn.proofs.Laws.{clashed, Entered, old, new, entered-seated}
 use Rattle.due.specs.Due.{dueSlot}
-use Rattle.intake.specs.Intake.{commitsOk, isMalformed}
+use Rattle.intake.specs.Intake.{commitsOk, isMalformed, tokenLength}
 use Rattle.intake.proofs.Laws.{commits-length}
-use Rattle.engine.specs.Calls.{initializes, running, admitStart, startTurn, startStep, killTurn, admitFrame, frameTurn, crowded, commitStep, confirmStep, frameStepBy, frameStep, expiresBy, expires}
+use Rattle.engine.specs.Calls.{initializes, running, admitStart, startTurn, admitFrame, frameTurn, expiresBy, expires}
 
 -- ---- which entry a call met
 
@@ -56,9 +53,6 @@ module _ (t a fresh : List ℕ) (e : Entry) (p : e ≡ entry t a) where
   start-by x r q w = w ∙ ap (λ (y : Entry). startTurn y t fresh) (sym q ∙ p)
 
 module _ (t a : List ℕ) (e : Entry) (p : e ≡ entry t a) where
-  pub kill-by : (x : Entry) (r : Turn) → e ≡ x → r ≡ killTurn x → r ≡ killTurn (entry t a)
-  kill-by x r q w = w ∙ ap killTurn (sym q ∙ p)
-
   pub seated-old : (k : ℕ) → e ≡ At k → Seated t (found.At k)
   seated-old k q = entered-seated t a (found.At k) (old (sym p ∙ q))
 
@@ -79,16 +73,16 @@ module _ (T : Table) (f : Found) (gs fresh : List ℕ) (b : Bool) (eg : gs ≡ g
   unfolding admitStart
   start-stock q = rw (of-table true q) refl
 
-  pub start-running : (p : Peer) → not b ≡ false → p ≡ lookBy T f → (p .run .state ≡ 0 → ⊥) → Refused why.Running ≡ admitStart T f fresh
+  pub start-running : (n : ℕ) → not b ≡ false → n ≡ lookBy T f .run .state → (n ≡ 0 → ⊥) → Refused why.Running ≡ admitStart T f fresh
   unfolding admitStart
-  start-running p q e d =
-      let y : running (lookBy T f) ≡ true = ap running (sym e) ∙ rw (ne-eqb _ _ d) refl in
+  start-running n q e d =
+      let y : running (lookBy T f) ≡ true = rw (ne-eqb _ _ (λ z. d (e ∙ z))) refl in
       rw (of-table false q, y) refl
 
-  pub start-go : (p : Peer) → not b ≡ false → p ≡ lookBy T f → p .run .state ≡ 0 → Go f ≡ admitStart T f fresh
+  pub start-go : (n : ℕ) → not b ≡ false → n ≡ lookBy T f .run .state → n ≡ 0 → Go f ≡ admitStart T f fresh
   unfolding admitStart
-  start-go p q e d =
-      let y : running (lookBy T f) ≡ false = ap running (sym e) ∙ rw (eq-eqb _ _ d) refl in
+  start-go n q e d =
+      let y : running (lookBy T f) ≡ false = rw (eq-eqb _ _ (sym e ∙ d)) refl in
       rw (of-table false q, y) refl
 
   -- ---- frame: causes 4, 5, 6, 7
@@ -131,7 +125,7 @@ two-groups : (t : List ℕ) → length (decodeTable t .header .groups) ≡ 2
 unfolding decodeTable decodeHeader headerOf
 two-groups t = refl
 
-pub listed-long : (t : List ℕ) → sound t ≡ true → length (groupsOf (decodeTable t .header)) ≡ decodeTable t .header .count
+listed-long : (t : List ℕ) → sound t ≡ true → length (groupsOf (decodeTable t .header)) ≡ decodeTable t .header .count
 listed-long t s = groups-length _ _ (two-groups t) (header-form (decodeTable t .header) (sound-header t s) .groups)
 
 pub count-fits : (t : List ℕ) (h : Header) → sound t ≡ true → h ≡ decodeTable t .header → h .count ≤ length (h .groups)
@@ -174,48 +168,18 @@ slot-range t k p b S e = look-range t (found.At k) p b S e .1
 pub listed-count : (t : List ℕ) (h : Header) → sound t ≡ true → h ≡ decodeTable t .header → h .count ≡ length (take (h .count) (h .groups))
 listed-count t h s e = rw e (sym (listed-long t s))
 
-pub listed-asked : (t : List ℕ) (h : Header) (fresh : List ℕ) → sound t ≡ true → h ≡ decodeTable t .header → commitsOk (groupsOf (decodeTable t .header)) fresh ≡ true
-    → (1 ≤ length (take (h .count) (h .groups))) × ((length (take (h .count) (h .groups)) ≤ 8) × (length fresh ≡ width * length (take (h .count) (h .groups))))
-listed-asked t h fresh s e c =
-    let n = listed-count t h s e in
-    let r = count-range t h s e in
-    let l : length fresh ≡ width * length (take (h .count) (h .groups)) = rw e (commits-length _ _ c) in
-    (omega (arith, n, r .0), (omega (arith, n, r .1), l))
-
 -- ---- steps
 
-pub commit-step-is : (T : Table) (f : Found) (a : List ℕ) (m n : Received) (fresh : List ℕ) (b e v : Bool) (time : ℕ) (r : Step) → r ≡ commitStep T f a m fresh b v time → m ≡ n → b ≡ e → r ≡ commitStep T f a n fresh e v time
-commit-step-is T f a m n fresh b e v time r q em eb = q ∙ rw (em, eb) refl
-
-pub start-law : (T : Table) (f : Found) (a : List ℕ) (time : ℕ) (fresh : List ℕ) (h : Header) (p : Peer) (own : List ℕ) (r : Step) → h ≡ T .header → p ≡ lookBy T f → own ≡ freshAt fresh 0
-    → r ≡ onStart factory p a (getD (h .groups) 0 0) own time → r ≡ startStep T f a time fresh
-unfolding startStep
-start-law T f a time fresh h p own r eh ep eo er = er ∙ rw (eh, ep, eo) refl
-
-pub commit-law : (T : Table) (f : Found) (a : List ℕ) (m : Received) (fresh : List ℕ) (entitled verified : Bool) (time : ℕ) (h : Header) (p : Peer) (c : Bool) (r : Step)
-    → h ≡ T .header → p ≡ lookBy T f → c ≡ crowded h → r ≡ onCommit factory p (h .own) a m (take (h .count) (h .groups)) fresh c entitled verified time
-    → r ≡ commitStep T f a m fresh entitled verified time
-unfolding commitStep
-commit-law T f a m fresh entitled verified time h p c r eh ep ec er = er ∙ rw (ec, eh, ep) refl
-
-pub confirm-law : (T : Table) (f : Found) (status counter : ℕ) (verified : Bool) (time : ℕ) (p : Peer) (r : Step) → p ≡ lookBy T f → r ≡ onConfirm factory p status counter verified time
-    → r ≡ confirmStep T f status counter verified time
-unfolding confirmStep
-confirm-law T f status counter verified time p r ep er = er ∙ rw ep refl
-
--- which shape a frame call met
-pub step-by : (T : Table) (f : Found) (a : List ℕ) (time : ℕ) (frame fresh expected : List ℕ) (verdict : ℕ) (h : Header) (x y : Body) (r : Step) → h ≡ T .header → x ≡ readBody (take (h .count) (h .groups)) frame → x ≡ y
-    → r ≡ frameStepBy y T f a time frame fresh expected (verdict is 1) → r ≡ frameStep T f a time frame fresh expected verdict
-unfolding frameStep
-step-by T f a time frame fresh expected verdict h x y r eh ex ey er =
-    er ∙ ap (λ (z : Body). frameStepBy z T f a time frame fresh expected (verdict is 1)) (sym ey ∙ ex ∙ ap (λ (g : Header). readBody (groupsOf g) frame) eh)
-
 -- a token that was read is at most 256 octets
-pub commit-token : (gs frame : List ℕ) (g n : ℕ) (x : Body) → x ≡ readBody gs frame → x ≡ body.Commit g n → n ≤ 256
-commit-token gs frame g n x e q = commit-shape gs frame g n (sym e ∙ q) .token
-
-pub request-token : (gs frame : List ℕ) (g n : ℕ) (x : Body) → x ≡ readBody gs frame → x ≡ body.TokenRequest g n → n ≤ 256
-request-token gs frame g n x e q = token-request-shape gs frame g n (sym e ∙ q) .token
+pub read-token : (gs frame : List ℕ) (x : Body) → x ≡ readBody gs frame → tokenLength x ≤ 256
+read-token gs frame (body.Commit g n) e = commit-shape gs frame g n (sym e) .token
+read-token gs frame (body.Unsupported g) e = lit≤ tt
+read-token gs frame (body.TokenRequest g n) e = token-request-shape gs frame g n (sym e) .token
+read-token gs frame (body.GroupRefusal g) e = lit≤ tt
+read-token gs frame (body.OtherCommit s) e = lit≤ tt
+read-token gs frame (body.Confirm n) e = lit≤ tt
+read-token gs frame (body.OtherConfirm s) e = lit≤ tt
+read-token gs frame body.Malformed e = lit≤ tt
 
 -- ---- set up
 
@@ -238,7 +202,7 @@ found-goes T f g fresh e = go (commitsOk (groupsOf (T .header)) fresh) (running 
     go true true q = clashed q
     go true false q = (refl, cc)
 
-pub start-entered : (t a fresh : List ℕ) (f : Found) → startTurn (entry t a) t fresh ≡ Go f → (Entered t a f) × (commitsOk (groupsOf (decodeTable t .header)) fresh ≡ true)
+start-entered : (t a fresh : List ℕ) (f : Found) → startTurn (entry t a) t fresh ≡ Go f → (Entered t a f) × (commitsOk (groupsOf (decodeTable t .header)) fresh ≡ true)
 unfolding startTurn
 start-entered t a fresh f e = go (entry t a) refl e
   where
@@ -260,7 +224,7 @@ frame-goes T f g frame fresh expected verdict e =
     go true true false true q = clashed q
     go true true false false q = (refl, cc)
 
-pub frame-entered : (t a frame fresh expected : List ℕ) (verdict : ℕ) (f : Found) → frameTurn (entry t a) t frame fresh expected verdict ≡ Go f → (Entered t a f) × (commitsOk (groupsOf (decodeTable t .header)) fresh ≡ true)
+frame-entered : (t a frame fresh expected : List ℕ) (verdict : ℕ) (f : Found) → frameTurn (entry t a) t frame fresh expected verdict ≡ Go f → (Entered t a f) × (commitsOk (groupsOf (decodeTable t .header)) fresh ≡ true)
 unfolding frameTurn
 frame-entered t a frame fresh expected verdict f e = go (entry t a) refl e
   where
@@ -270,21 +234,8 @@ frame-entered t a frame fresh expected verdict f e = go (entry t a) refl e
     go (At k) p q = let w = frame-goes (decodeTable t) (found.At k) f frame fresh expected verdict q in (subst (Entered t a) (w .1) (old p), w .0)
     go Absent p q = let w = frame-goes (decodeTable t) found.Nothing f frame fresh expected verdict q in (subst (Entered t a) (w .1) (new p), w .0)
 
-pub kill-entered : (t a : List ℕ) (f : Found) → killTurn (entry t a) ≡ Go f → Entered t a f
-unfolding killTurn
-kill-entered t a f e = go (entry t a) refl e
-  where
-    go : (x : Entry) → entry t a ≡ x → killTurn x ≡ Go f → Entered t a f
-    go Unsound p q = clashed q
-    go Unusable p q = clashed q
-    go Absent p q = clashed q
-    go (At k) p q = let z : found.At k ≡ f = cc in subst (Entered t a) z (old p)
-
 -- what the functions ask of a turn that goes on
 module _ (t a : List ℕ) (f : Found) (e : Turn) where
-  pub kill-seated : e ≡ killTurn (entry t a) → e ≡ Go f → Seated t f
-  kill-seated p q = entered-seated t a f (kill-entered t a f (sym p ∙ q))
-
   pub start-seated : (fresh : List ℕ) → e ≡ startTurn (entry t a) t fresh → e ≡ Go f → (Seated t f) × (width ≤ length fresh)
   start-seated fresh p q =
       let w = start-entered t a fresh f (sym p ∙ q) in
@@ -316,19 +267,13 @@ module _ (t : List ℕ) (time : ℕ) (b : Bool) (eb : b ≡ sound t) (q : not b 
   unfolding expiresBy
   expire-none r e er = subst (λ (l : Left). Leaves r t l) (sym (expires-by found.Nothing e)) (record { answer = er; table = refl })
 
-  pub expire-below : (k : ℕ) → d ≡ found.At k → k < slots (decodeTable t)
+  expire-below : (k : ℕ) → d ≡ found.At k → k < slots (decodeTable t)
   unfolding dueSlot
   expire-below k e = first-at _ (slots (decodeTable t)) k (sym ed ∙ e) .0
 
   pub expire-seated : (k : ℕ) → d ≡ found.At k → Seated t (found.At k)
   expire-seated k e = record { whole = whole; below = λ j z. let y : k ≡ j = cc in subst (λ (i : ℕ). i < slots (decodeTable t)) y (expire-below k e) }
 
-  pub expire-fits : (k : ℕ) → d ≡ found.At k → 32 + size * k + size ≤ length t
-  expire-fits k e = ready t whole k (expire-below k e) .fits
-
-  pub expire-at : (k : ℕ) (p : Peer) (s : Step) (r : Answer) (u : List ℕ) → d ≡ found.At k → p ≡ slot (decodeTable t) k → s ≡ onExpired factory p time → Leaves r u (finishes t (found.At k) s (p .address)) → Leaves r u (expires t time)
+  pub expire-at : (k : ℕ) (r : Answer) (u : List ℕ) → d ≡ found.At k → Leaves r u (finishes t (found.At k) (onExpired factory (slot (decodeTable t) k) time) (slot (decodeTable t) k .address)) → Leaves r u (expires t time)
   unfolding expiresBy
-  expire-at k p s r u e ep es l =
-      subst (λ (l : Left). Leaves r u l) (sym (expires-by (found.At k) e))
-      (subst (λ (x : Peer). Leaves r u (finishes t (found.At k) (onExpired factory x time) (x .address))) ep
-      (subst (λ (y : Step). Leaves r u (finishes t (found.At k) y (p .address))) es l))
+  expire-at k r u e l = subst (λ (l : Left). Leaves r u l) (sym (expires-by (found.At k) e)) l

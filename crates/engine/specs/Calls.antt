@@ -1,17 +1,15 @@
 -- The calls: what each answers and the table that it leaves, as a definition of all that is handed over. Refusals stand in the order of their test.
-use mathlib.Core.Bool.{Bool, true, false, not, _&&_, _||_}
+use mathlib.Core.Bool.{Bool, false, not}
 use mathlib.Core.List.{List}
 use Prim.Native.Nat.{ℕ}
 use lib.Dec.{eqb, leb, ltb}
 use lib.ListN.{length, getD}
 use Rattle.octets.specs.Scan.{if_then_else_}
-use Rattle.octets.specs.Octets.{same}
 use Rattle.octets.specs.declared.Found.{Found}
 use Rattle.octets.specs.declared.Found.the-variants as found
 use Rattle.groups.specs.Groups.{freshAt}
-use Rattle.frame.specs.Frame.{readBody, tokenOf}
+use Rattle.frame.specs.Frame.{readBody}
 use Rattle.frame.specs.declared.Body.{Body}
-use Rattle.frame.specs.declared.Body.the-variants as body
 use Rattle.record.specs.declared.Header.{Header}
 use Rattle.record.specs.declared.Peer.{Peer}
 use Rattle.record.specs.declared.Settings.{Settings}
@@ -26,9 +24,8 @@ use Rattle.acts.specs.declared.Step.{Step}
 use Rattle.acts.specs.declared.Event.the-variants as event
 use Rattle.acts.specs.declared.Frames.the-variants as frames
 use Rattle.machine.specs.declared.Received.{Received}
-use Rattle.intake.specs.Intake.{commitsOk, isMalformed, bareCommit, heardCommit, heardToken}
+use Rattle.intake.specs.Intake.{commitsOk, isMalformed, isCommit, heardOf, entitledOf, confirmStatus, confirmCounter}
 use Rattle.machine.specs.Rules.{onStart, onCommit, onConfirm, onExpired}
-use Rattle.turn.specs.declared.Refusal.{Refusal}
 use Rattle.turn.specs.declared.Refusal.the-variants as why
 use Rattle.turn.specs.declared.Turn.{Turn}
 use Rattle.turn.specs.declared.Turn.the-variants as turn
@@ -109,17 +106,11 @@ commitStep T f address m fresh entitled verified time =
 unfoldable pub confirmStep : Table → Found → ℕ → ℕ → Bool → ℕ → Step
 confirmStep T f status counter verified time = onConfirm factory (lookBy T f) status counter verified time
 
--- each shape goes to its rule; a malformed body is refused before
+-- each shape goes to its rule, a Commit of any status and group to the Commit's; a malformed body is refused before
 unfoldable pub frameStepBy : Body → Table → Found → List ℕ → ℕ → List ℕ → List ℕ → List ℕ → Bool → Step
-frameStepBy (body.Commit g n) T f address time frame fresh expected verified =
-    commitStep T f address (heardCommit frame g n) fresh (same (tokenOf frame n) expected) verified time
-frameStepBy (body.Unsupported g) T f address time frame fresh expected verified = commitStep T f address (bareCommit 0 g) fresh false verified time
-frameStepBy (body.TokenRequest g n) T f address time frame fresh expected verified = commitStep T f address (heardToken frame g n) fresh false verified time
-frameStepBy (body.GroupRefusal g) T f address time frame fresh expected verified = commitStep T f address (bareCommit 77 g) fresh false verified time
-frameStepBy (body.OtherCommit s) T f address time frame fresh expected verified = commitStep T f address (bareCommit s 0) fresh false verified time
-frameStepBy (body.Confirm n) T f address time frame fresh expected verified = confirmStep T f 0 n verified time
-frameStepBy (body.OtherConfirm s) T f address time frame fresh expected verified = confirmStep T f s 0 verified time
-frameStepBy body.Malformed T f address time frame fresh expected verified = confirmStep T f 1 0 verified time
+frameStepBy b T f address time frame fresh expected verified =
+    if isCommit b then commitStep T f address (heardOf frame b) fresh (entitledOf frame b expected) verified time
+    else confirmStep T f (confirmStatus b) (confirmCounter b) verified time
 
 -- "one verdict, 0 or 1"
 unfoldable pub frameStep : Table → Found → List ℕ → ℕ → List ℕ → List ℕ → List ℕ → ℕ → Step

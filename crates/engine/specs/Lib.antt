@@ -1,2 +1,3 @@
 -- What the contracts of `engine` cite.
 pub mod Calls
+pub mod InSlot

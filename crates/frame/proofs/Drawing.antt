@@ -1,18 +1,18 @@
 -- What each branch of the writers leaves and answers, in the order of the tests.
-use mathlib.Core.Path.{_≡_, refl, sym, ap, _∙_}
-use mathlib.Core.Bool.{Bool, true, false, not}
+use mathlib.Core.Path.{_≡_, _∙_}
+use mathlib.Core.Bool.{Bool, true, false}
 use mathlib.Core.List.{List, []}
-use Prim.Native.Nat.{ℕ, _+_, _≤_, _<_}
+use Prim.Native.Nat.{ℕ, _≤_, _<_}
 use native.Mathlib.Omega.{arith}
-use lib.Dec.{eqb, ltb}
+use lib.Dec.{eqb}
 use lib.ListN.{length}
 use borrow.Author.Tests.{lt-ltb, le-ltb, eq-eqb, ne-eqb}
 use Rattle.octets.specs.Scan.{if_then_else_}
 use Rattle.groups.specs.Groups.{commitLength, listed}
 use Rattle.frame.specs.declared.Written.{Written}
-use Rattle.frame.specs.declared.Written.the-variants.{Length, Shape, Short}
+use Rattle.frame.specs.declared.Written.the-variants.{Shape}
 use Rattle.frame.specs.Frame.{body, commitBody, tokenRequestBody, groupRefusalBody, confirmBody}
-use Rattle.frame.specs.Writing.{Drawn, Octets, Outside, Writes, drawCommit, drawTokenRequest, drawGroupRefusal, drawConfirm, drawCommits, drawConfirms, partsBody}
+use Rattle.frame.specs.Writing.{Octets, Outside, Writes, drawCommit, drawTokenRequest, drawGroupRefusal, drawConfirm, drawCommits, drawConfirms, partsBody}
 use Rattle.frame.proofs.Laws.{outside, drawn}
 
 -- ---- a status 0 Commit

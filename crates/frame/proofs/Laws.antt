@@ -1,15 +1,14 @@
 -- Laws of bodies: where each part of a body stands, and what the stores of a writer make.
 use mathlib.Core.Path.{_≡_, refl, sym, ap, _∙_}
-use mathlib.Core.Bool.{Bool, true, false}
-use mathlib.Core.List.{List, [], _∷_, _++_, append-assoc, append-nil}
+use mathlib.Core.Bool.{true, false}
+use mathlib.Core.List.{List, [], _++_, append-assoc}
 use Prim.Native.Nat.{ℕ, _+_, _-_, _≤_, _<_}
 use native.Mathlib.Omega.{arith}
-use lib.Dec.{eqb, ltb}
+use lib.Dec.{ltb}
 use lib.ListN.{length, take, drop, length-append, length-drop, drop-of-length-le}
 use lib.Seq.{take-at, drop-at, take-all}
 use borrow.Author.Tests.{lt-ltb, le-ltb}
-use Rattle.octets.specs.Octets.{part, put, num, oct}
-use Rattle.octets.specs.Scan.{if_then_else_}
+use Rattle.octets.specs.Octets.{part, put, oct}
 use Rattle.octets.proofs.Laws.{put-put, part-add}
 use Rattle.groups.specs.Groups.{scalarLength, elementLength, commitLength, stored}
 use Rattle.frame.specs.declared.Written.{Written}

@@ -1,10 +1,10 @@
 -- What each branch of the reader's functions answers, in the order of the tests.
-use mathlib.Core.Path.{_≡_, refl, sym, ap, _∙_}
+use mathlib.Core.Path.{_≡_, sym, ap, _∙_}
 use mathlib.Core.Bool.{Bool, true, false}
 use mathlib.Core.List.{List}
 use Prim.Native.Nat.{ℕ, _+_, _-_, _≤_, _<_}
 use native.Mathlib.Omega.{arith}
-use lib.Dec.{eqb, ltb}
+use lib.Dec.{eqb}
 use lib.ListN.{length, drop, length-drop}
 use borrow.Author.Tests.{lt-ltb, le-ltb, eq-eqb, ne-eqb}
 use Rattle.groups.specs.Groups.{commitLength, listed}
@@ -21,9 +21,6 @@ module _ (h : Head) (s : List ℕ) (e : h ≡ headOf s) where
 
   pub head-sequence : h .sequence ≡ sequenceOf s
   head-sequence = ap (λ (x : Head). x .sequence) e
-
-  pub head-status : h .status ≡ statusOf s
-  head-status = ap (λ (x : Head). x .status) e
 
 module _ (g : ℕ) (s : List ℕ) (m : ℕ) (e : m ≡ commitLength g) where
   pub listed-short : length s < 8 + m → Malformed ≡ readListed g s

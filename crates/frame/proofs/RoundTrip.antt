@@ -1,7 +1,7 @@
 -- The round trips: what is written reads back, and what was read is written again as the same octets.
 use mathlib.Core.Path.{_≡_, refl, sym, ap, _∙_}
 use mathlib.Core.Bool.{Bool, true, false}
-use mathlib.Core.List.{List, [], _∷_, _++_, append-assoc, append-nil}
+use mathlib.Core.List.{List, [], _++_, append-assoc, append-nil}
 use Prim.Native.Nat.{ℕ, _+_, _-_, _≤_, _<_}
 use native.Mathlib.Omega.{arith}
 use lib.Dec.{eqb, ltb, lit<}
@@ -12,9 +12,8 @@ use Rattle.octets.specs.Scan.{if_then_else_}
 use Rattle.octets.proofs.Laws.{num-oct, oct-part, part-add, part-all, length-part}
 use Rattle.groups.specs.Groups.{width, commitLength, listed, stored}
 use Rattle.groups.proofs.Laws.{commit-fits, stored-tail}
-use Rattle.frame.specs.declared.Body.{Body}
-use Rattle.frame.specs.declared.Body.the-variants.{Commit, Unsupported, TokenRequest, GroupRefusal, OtherCommit, Confirm, OtherConfirm, Malformed}
-use Rattle.frame.specs.Frame.{algorithmOf, sequenceOf, statusOf, groupOf, counterOf, readListed, readOffer, readTokenRequest, readGroupRefusal, readCommit, confirmEnds, readConfirm, readBody, tokenOf, commitOf, valueOf, isOffer, head, body, commitBody, tokenRequestBody, groupRefusalBody, confirmBody}
+use Rattle.frame.specs.declared.Body.the-variants.{Commit, TokenRequest, GroupRefusal, OtherCommit, Confirm, OtherConfirm, Malformed}
+use Rattle.frame.specs.Frame.{algorithmOf, sequenceOf, statusOf, groupOf, counterOf, readListed, readTokenRequest, readGroupRefusal, readCommit, confirmEnds, readConfirm, readBody, tokenOf, commitOf, valueOf, isOffer, head, body, commitBody, tokenRequestBody, groupRefusalBody, confirmBody}
 use Rattle.frame.specs.Writing.{Octets, drawCommit, drawTokenRequest, drawGroupRefusal, drawConfirm}
 use Rattle.frame.proofs.Laws.{part-mid, length-head, length-body, commit-is}
 use Rattle.frame.proofs.Reading.{listed-read, offer-listed, request-read, refusal-read, commit-offer, commit-request, commit-refusal, confirm-read, body-commit, body-confirm}

@@ -83,17 +83,6 @@ fn part_of<'a>(s: &'a [u8], at: usize, n: usize) -> &'a [u8]
     &s[at..end]
 }
 
-// How many octets a slice has from an offset on; none lie past the end.
-fn rest_of(s: &[u8], at: usize) -> usize
-    ensures { λ r. ⌜ r ≡ length (now (s .entry)) - at ⌝ }
-{
-    let all = s.len();
-    if all < at {
-        return 0;
-    }
-    all - at
-}
-
 // A reader at the start of a frame.
 pub fn begin<'a>(frame: &'a [u8]) -> Reader<'a>
     ensures { λ r. ⌜ (r .frame ≡ frame .entry) × (r .at ≡ 0) ⌝ }
@@ -124,13 +113,6 @@ fn taken<'a>(r: Reader<'a>, n: usize) -> &'a [u8]
     ensures { λ s. ⌜ now s ≡ part (now (r .entry .frame)) (r .entry .at) n ⌝ }
 {
     part_of(r.frame, r.at, n)
-}
-
-// How many octets are left from the offset reached on.
-pub fn left<'a>(r: Reader<'a>) -> usize
-    ensures { λ n. ⌜ n ≡ length (now (r .entry .frame)) - r .entry .at ⌝ }
-{
-    rest_of(r.frame, r.at)
 }
 
 // Algorithm, sequence and status, one after another.

@@ -1,21 +1,24 @@
 -- Laws of the stock's test and of what the rules see of a frame.
-use mathlib.Core.Path.{_≡_, refl, sym, ap, _∙_}
+use mathlib.Core.Path.{_≡_, refl, sym, ap, _∙_, subst}
 use mathlib.Core.Bool.{Bool, true, false, not, _&&_}
-use mathlib.Core.List.{List, [], _∷_, _++_}
-use Prim.Native.Nat.{ℕ, zero, suc, _+_, _-_, _*_, _/_, _%_, _≤_, _<_}
+use mathlib.Core.List.{List}
+use Prim.Native.Nat.{ℕ, _+_, _-_, _*_, _/_, _%_, _≤_, _<_}
 use native.Mathlib.Omega.{arith}
 use native.Mathlib.Numerals.{add-one}
-use native.Mathlib.Nat.{zero-add, sub-zero, zero-sub, suc-sub-suc}
-use lib.Dec.{eqb}
-use lib.ListN.{length, take, drop, getD, replicate, drop-of-length-le, length-take}
+use native.Mathlib.Nat.{zero-add}
+use lib.ListN.{length, drop, getD, replicate, drop-of-length-le, length-take}
 use lib.Seq.{drop-cons}
 use borrow.Author.Tests.{eqb-true, eq-eqb, ne-eqb, not-true, not-false}
-use Rattle.octets.specs.Octets.{part, put, allZero}
-use Rattle.octets.proofs.Scan.{and-left, and-right}
+use Rattle.octets.specs.Octets.{part, put, allZero, same}
+use Rattle.octets.proofs.Scan.{and-left}
+use Rattle.groups.proofs.Laws.{drop-zeros}
 use Rattle.groups.specs.Groups.{width, commitLength, freshAt}
 use Rattle.form.proofs.Tests.{tail-part}
 use Rattle.frame.specs.Frame.{tokenOf}
-use Rattle.intake.specs.Intake.{tailsOk, commitsOk, storedToken}
+use Rattle.frame.specs.declared.Body.{Body}
+use Rattle.frame.specs.declared.Body.the-variants as body
+use Rattle.machine.specs.declared.Received.{Received}
+use Rattle.intake.specs.Intake.{tailsOk, commitsOk, storedToken, tokenLength, heardOf, entitledOf}
 
 -- ---- the stock
 
@@ -65,11 +68,6 @@ stock-quotient n m d e = d (omega arith)
 pub stock-rest : (n m : ℕ) → (n % width ≡ 0 → ⊥) → n ≡ width * m → ⊥
 stock-rest n m d e = d (omega arith)
 
-drop-zeros : (m n : ℕ) → drop n (replicate {A = ℕ} m 0) ≡ replicate (m - n) 0
-drop-zeros m zero = rw (sub-zero m) refl
-drop-zeros zero (suc n) = rw (zero-sub (suc n)) refl
-drop-zeros (suc m) (suc n) = drop-zeros m n ∙ rw (suc-sub-suc m n) refl
-
 -- [0; 256] filled with a token
 pub token-law : (token r : List ℕ) → r ≡ put (replicate 256 0) 0 token → r ≡ storedToken token
 unfolding storedToken put
@@ -78,3 +76,15 @@ token-law token r e = e ∙ rw (zero-add, drop-zeros 256 (length token)) refl
 pub token-short : (s r : List ℕ) (n : ℕ) → n ≤ 256 → r ≡ tokenOf s n → length r ≤ 256
 unfolding tokenOf part
 token-short s r n h e = rw (e, length-take) (omega arith)
+
+-- ---- a body by its shape
+
+-- the shape that a body is of
+pub heard-law : (frame : List ℕ) (B y : Body) (r : Received) → B ≡ y → r ≡ heardOf frame y → r ≡ heardOf frame B
+heard-law frame B y r e q = q ∙ ap (heardOf frame) (sym e)
+
+pub heard-length : (B y : Body) → B ≡ y → tokenLength B ≤ 256 → tokenLength y ≤ 256
+heard-length B y e h = subst (λ (z : Body). tokenLength z ≤ 256) e h
+
+pub entitled-law : (frame token expected : List ℕ) (B : Body) (g n : ℕ) (r : Bool) → B ≡ body.Commit g n → token ≡ tokenOf frame n → r ≡ same token expected → r ≡ entitledOf frame B expected
+entitled-law frame token expected B g n r e t q = q ∙ ap (λ (s : List ℕ). same s expected) t ∙ ap (λ (z : Body). entitledOf frame z expected) (sym e)

@@ -3,7 +3,7 @@ ghost use mathlib.Core.Path.{_≡_};
 ghost use Prim.Native.Nat.{_+_, _*_, _≤_};
 ghost use lib.ListN.{length};
 ghost use Rattle.groups.specs.Groups.{width};
-ghost use Rattle.intake.specs.Intake.{tailsOk, commitsOk, isMalformed, storedToken, bareCommit, heardCommit, heardToken};
+ghost use Rattle.intake.specs.Intake.{tailsOk, commitsOk, isMalformed, storedToken, bareCommit, heardCommit, heardToken, isCommit, tokenLength, heardOf, entitledOf, confirmStatus, confirmCounter};
 use frame::Body;
 use groups::COMMIT;
 use machine::Received;
@@ -55,7 +55,7 @@ pub fn is_malformed(b: Body) -> bool
 }
 
 // A Commit of a status and group, with nothing else to it.
-pub fn bare_commit(status: u16, group: u16) -> Received
+fn bare_commit(status: u16, group: u16) -> Received
     ensures { λ r. ⌜ r ≡ bareCommit status group ⌝ }
 {
     Received {
@@ -69,7 +69,7 @@ pub fn bare_commit(status: u16, group: u16) -> Received
 }
 
 // A status 0 Commit in a listed group.
-pub fn heard_commit(body: &[u8], group: u16, n: usize) -> Received
+fn heard_commit(body: &[u8], group: u16, n: usize) -> Received
     requires { ⌜ n ≤ 256 ⌝ }
     ensures { λ r. ⌜ r ≡ heardCommit (now (body .entry)) group n ⌝ }
 {
@@ -95,7 +95,7 @@ fn stored_token(token: &[u8]) -> [u8; 256]
 }
 
 // A 76, with its token.
-pub fn heard_token(body: &[u8], group: u16, n: usize) -> Received
+fn heard_token(body: &[u8], group: u16, n: usize) -> Received
     requires { ⌜ n ≤ 256 ⌝ }
     ensures { λ r. ⌜ r ≡ heardToken (now (body .entry)) group n ⌝ }
 {
@@ -107,5 +107,89 @@ pub fn heard_token(body: &[u8], group: u16, n: usize) -> Received
         toklen: n as u16,
         token: token,
         commit: [0u8; COMMIT],
+    }
+}
+
+// A Commit of any shape.
+pub fn is_commit(b: Body) -> bool
+    ensures { λ r. ⌜ r ≡ isCommit b ⌝ }
+{
+    match b {
+        Body::Commit { group: _, token: _ } => true,
+        Body::Unsupported { group: _ } => true,
+        Body::TokenRequest { group: _, token: _ } => true,
+        Body::GroupRefusal { group: _ } => true,
+        Body::OtherCommit { status: _ } => true,
+        Body::Confirm { counter: _ } => false,
+        Body::OtherConfirm { status: _ } => false,
+        Body::Malformed => false,
+    }
+}
+
+// The Commit that the rules see; nothing of a body that is none.
+pub fn heard(body: &[u8], b: Body) -> Received
+    requires { ⌜ tokenLength b ≤ 256 ⌝ }
+    ensures { λ r. ⌜ r ≡ heardOf (now (body .entry)) b ⌝ }
+{
+    match b {
+        Body::Commit { group, token } => heard_commit(body, group, token),
+        Body::Unsupported { group } => bare_commit(0, group),
+        Body::TokenRequest { group, token } => heard_token(body, group, token),
+        Body::GroupRefusal { group } => bare_commit(77, group),
+        Body::OtherCommit { status } => bare_commit(status, 0),
+        Body::Confirm { counter: _ } => bare_commit(0, 0),
+        Body::OtherConfirm { status: _ } => bare_commit(0, 0),
+        Body::Malformed => bare_commit(0, 0),
+    }
+}
+
+// The token of a status 0 Commit in a listed group is the expected one.
+pub fn is_entitled(body: &[u8], b: Body, expected: &[u8]) -> bool
+    ensures { λ r. ⌜ r ≡ entitledOf (now (body .entry)) b (now (expected .entry)) ⌝ }
+{
+    match b {
+        Body::Commit { group: _, token } => {
+            let sent = frame::token_of(body, token);
+            octets::is_same(sent, expected)
+        }
+        Body::Unsupported { group: _ } => false,
+        Body::TokenRequest { group: _, token: _ } => false,
+        Body::GroupRefusal { group: _ } => false,
+        Body::OtherCommit { status: _ } => false,
+        Body::Confirm { counter: _ } => false,
+        Body::OtherConfirm { status: _ } => false,
+        Body::Malformed => false,
+    }
+}
+
+// The status of a Confirm; 1 of a body that is none.
+pub fn confirm_status(b: Body) -> u16
+    ensures { λ r. ⌜ r ≡ confirmStatus b ⌝ }
+{
+    match b {
+        Body::Commit { group: _, token: _ } => 1,
+        Body::Unsupported { group: _ } => 1,
+        Body::TokenRequest { group: _, token: _ } => 1,
+        Body::GroupRefusal { group: _ } => 1,
+        Body::OtherCommit { status: _ } => 1,
+        Body::Confirm { counter: _ } => 0,
+        Body::OtherConfirm { status } => status,
+        Body::Malformed => 1,
+    }
+}
+
+// The counter of a status 0 Confirm.
+pub fn confirm_counter(b: Body) -> u16
+    ensures { λ r. ⌜ r ≡ confirmCounter b ⌝ }
+{
+    match b {
+        Body::Commit { group: _, token: _ } => 0,
+        Body::Unsupported { group: _ } => 0,
+        Body::TokenRequest { group: _, token: _ } => 0,
+        Body::GroupRefusal { group: _ } => 0,
+        Body::OtherCommit { status: _ } => 0,
+        Body::Confirm { counter } => counter,
+        Body::OtherConfirm { status: _ } => 0,
+        Body::Malformed => 0,
     }
 }

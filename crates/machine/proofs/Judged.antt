@@ -1,5 +1,5 @@
 -- Judging a Commit and then acting is the rule.
-use mathlib.Core.Path.{_≡_, refl, _∙_, ap}
+use mathlib.Core.Path.{_≡_, refl, sym, _∙_, ap, subst}
 use mathlib.Core.Bool.{Bool, true, false, not, _&&_}
 use mathlib.Core.List.{List}
 use Prim.Native.Nat.{ℕ, _+_, _*_, _≤_, _<_}
@@ -14,7 +14,8 @@ use Rattle.groups.specs.declared.Choice.the-variants as choice
 use Rattle.groups.proofs.Laws.{chosen}
 use Rattle.record.specs.declared.Peer.{Peer}
 use Rattle.acts.specs.declared.Frames.the-variants.{One}
-use Rattle.acts.specs.declared.Step.{Step}
+use Rattle.acts.specs.declared.Said.{Said}
+use Rattle.acts.specs.Said.{Does}
 use Rattle.acts.specs.Acts.{_is_, holds, Timing, tokenRequestFrame, groupRefusalFrame, commitFrame, answering, dropping, sending, abandoning}
 use Rattle.judge.specs.declared.Idle.{Idle}
 use Rattle.judge.specs.declared.Idle.the-variants as idle
@@ -69,6 +70,9 @@ module _ (τ : Timing) (p : Peer) (m : Received) (fresh groups stock : List ℕ)
   unfolding actedCommitted
   case-fresh e = rw e
 
+  pub case-formed : (x : Said) (left address : List ℕ) → address ≡ p .address → call ≡ case.FormFresh → Does x left (formingFresh τ p address m fresh time) → Does x left (actedCommitted τ p m fresh groups stock call time)
+  case-formed x left address a e h = subst (Does x left) (ap (λ (y : List ℕ). formingFresh τ p y m fresh time) a ∙ sym (case-fresh e)) h
+
   pub case-own : call ≡ case.FormOwn → actedCommitted τ p m fresh groups stock call time ≡ formingOwn τ p m time
   unfolding actedCommitted
   case-own e = rw e
@@ -108,11 +112,13 @@ idle-judged τ p address m fresh crowded entitled verified time =
 
 -- the same, from what the calls of the code answer
 pub idle-law :
-    (τ : Timing) (p : Peer) (address : List ℕ) (m : Received) (fresh : List ℕ) (crowded entitled verified : Bool) (time : ℕ) (x : Step) (call : Idle) (linked ours : Bool) →
+    (τ : Timing) (p : Peer) (address : List ℕ) (m : Received) (fresh : List ℕ) (crowded entitled verified : Bool) (time : ℕ) (x : Said) (left : List ℕ) (call : Idle) (linked ours : Bool) →
     ours ≡ same (m .commit) fresh → linked ≡ linkedWith (p .link) m →
     call ≡ judgedIdle (m .status) (m .listed) linked (crowded && (m .toklen is 0)) (crowded && not entitled) ours verified →
-    x ≡ actedIdle τ p address m fresh call time → x ≡ onCommitIdle τ p address m fresh crowded entitled verified time
-idle-law τ p address m fresh crowded entitled verified time x call linked ours a b c d = cc (idle-judged τ p address m fresh crowded entitled verified time)
+    Does x left (actedIdle τ p address m fresh call time) → Does x left (onCommitIdle τ p address m fresh crowded entitled verified time)
+idle-law τ p address m fresh crowded entitled verified time x left call linked ours a b c d =
+    let e : actedIdle τ p address m fresh call time ≡ onCommitIdle τ p address m fresh crowded entitled verified time = cc (idle-judged τ p address m fresh crowded entitled verified time) in
+    subst (Does x left) e d
 
 -- ---- "Commit in Committed"
 
@@ -163,11 +169,14 @@ case-judged τ p own m groups stock verified time =
     (same (m .commit) (freshFor groups stock (m .group))) (same (m .commit) (p .run .own)) verified
 
 pub case-law :
-    (τ : Timing) (p : Peer) (own : List ℕ) (m : Received) (groups stock : List ℕ) (verified : Bool) (time : ℕ) (x : Step) (call : Case) (fresh : List ℕ) (stocked reflected high : Bool) →
-    fresh ≡ freshFor groups stock (m .group) → stocked ≡ same (m .commit) fresh → reflected ≡ same (m .commit) (p .run .own) → high ≡ higher own (p .address) →
-    call ≡ judgedCommitted (m .status) (m .group) (p .run .group) (m .listed) high stocked reflected verified →
-    x ≡ actedCommitted τ p m fresh groups stock call time → x ≡ onCommitCommitted τ p own m groups stock verified time
-case-law τ p own m groups stock verified time x call fresh stocked reflected high a b c d e f = cc (case-judged τ p own m groups stock verified time)
+    (τ : Timing) (p : Peer) (own : List ℕ) (m : Received) (groups stock : List ℕ) (verified : Bool) (time : ℕ) (x : Said) (left : List ℕ) (call : Case) (ours : ℕ) (fresh address : List ℕ) (stocked reflected high : Bool) →
+    ours ≡ p .run .group → address ≡ p .address →
+    fresh ≡ freshFor groups stock (m .group) → stocked ≡ same (m .commit) fresh → reflected ≡ same (m .commit) (p .run .own) → high ≡ higher own address →
+    call ≡ judgedCommitted (m .status) (m .group) ours (m .listed) high stocked reflected verified →
+    Does x left (actedCommitted τ p m fresh groups stock call time) → Does x left (onCommitCommitted τ p own m groups stock verified time)
+case-law τ p own m groups stock verified time x left call ours fresh address stocked reflected high g h a b c d e f =
+    let j : actedCommitted τ p m fresh groups stock call time ≡ onCommitCommitted τ p own m groups stock verified time = cc (case-judged τ p own m groups stock verified time) in
+    subst (Does x left) j f
 
 -- ---- "77: our group"
 
@@ -188,15 +197,20 @@ unfolding switchingTo
 to-none τ p rejected stock time = refl
 
 pub switch-law :
-    (τ : Timing) (p : Peer) (gs stock : List ℕ) (time : ℕ) (x : Step) (i rejected k g : ℕ) (c : Choice) (fresh : List ℕ) →
-    i ≡ indexOf gs (p .run .group) → rejected ≡ mark (p .run .rejected) i → c ≡ firstLeft gs 0 rejected → c ≡ choice.Group k g → fresh ≡ freshAt stock k →
-    x ≡ sending τ p (switched (p .run) rejected g fresh) (One (commitFrame g)) g time → x ≡ switching τ p gs stock time
+    (τ : Timing) (p : Peer) (gs stock : List ℕ) (time : ℕ) (x : Said) (left : List ℕ) (ours before i rejected k g : ℕ) (c : Choice) (fresh : List ℕ) →
+    ours ≡ p .run .group → before ≡ p .run .rejected →
+    i ≡ indexOf gs ours → rejected ≡ mark before i → c ≡ firstLeft gs 0 rejected → c ≡ choice.Group k g → fresh ≡ freshAt stock k →
+    Does x left (sending τ p (switched (p .run) rejected g fresh) (One (commitFrame g)) g time) → Does x left (switching τ p gs stock time)
 unfolding switching
-switch-law τ p gs stock time x i rejected k g c fresh d e f h j l = cc (to-group τ p rejected k g stock time)
+switch-law τ p gs stock time x left ours before i rejected k g c fresh a b d e f h j l =
+    let q : sending τ p (switched (p .run) rejected g fresh) (One (commitFrame g)) g time ≡ switching τ p gs stock time = cc (to-group τ p rejected k g stock time) in
+    subst (Does x left) q l
 
 pub switch-none :
-    (τ : Timing) (p : Peer) (gs stock : List ℕ) (time : ℕ) (x : Step) (i rejected : ℕ) (c : Choice) →
-    i ≡ indexOf gs (p .run .group) → rejected ≡ mark (p .run .rejected) i → c ≡ firstLeft gs 0 rejected → c ≡ choice.None → x ≡ abandoning p →
-    x ≡ switching τ p gs stock time
+    (τ : Timing) (p : Peer) (gs stock : List ℕ) (time : ℕ) (x : Said) (left : List ℕ) (ours before i rejected : ℕ) (c : Choice) →
+    ours ≡ p .run .group → before ≡ p .run .rejected → i ≡ indexOf gs ours → rejected ≡ mark before i → c ≡ firstLeft gs 0 rejected → c ≡ choice.None →
+    Does x left (abandoning p) → Does x left (switching τ p gs stock time)
 unfolding switching
-switch-none τ p gs stock time x i rejected c d e f h j = cc (to-none τ p rejected stock time)
+switch-none τ p gs stock time x left ours before i rejected c a b d e f h j =
+    let q : abandoning p ≡ switching τ p gs stock time = cc (to-none τ p rejected stock time) in
+    subst (Does x left) q j

@@ -2,6 +2,7 @@
 -- The rules themselves are in Rules; the laws in proofs/Judged say that judging and then acting is the rule.
 use mathlib.Core.List.{List}
 use Prim.Native.Nat.{ℕ, _+_}
+use Rattle.record.specs.declared.Run.{Run}
 use Rattle.record.specs.declared.Peer.{Peer}
 use Rattle.acts.specs.declared.Frames.the-variants.{One, Two}
 use Rattle.acts.specs.declared.Step.{Step}
@@ -12,6 +13,22 @@ use Rattle.judge.specs.declared.Case.{Case}
 use Rattle.judge.specs.declared.Case.the-variants as case
 use Rattle.machine.specs.declared.Received.{Received}
 use Rattle.machine.specs.Rules.{replyingToken, switching}
+
+-- a run with another token
+unfoldable pub withToken : Run → ℕ → List ℕ → Run
+withToken r toklen token =
+    record {
+      state = r .state;
+      sync = r .sync;
+      rejected = r .rejected;
+      sc = r .sc;
+      group = r .group;
+      toklen = toklen;
+      t0 = r .t0;
+      own = r .own;
+      peer = r .peer;
+      token = token;
+    }
 
 -- "fresh commit, Form, send Commit and Confirm"
 unfoldable pub formingFresh : Timing → Peer → List ℕ → Received → List ℕ → ℕ → Step

@@ -1,10 +1,9 @@
 -- The rules for one peer, one definition for each state and message, in the paper's order. Each branch has its sentence beside it.
 -- τ has the first period and the Sync limit; p is the peer's record, or the free one where the address has none; `time` is the clock's reading.
-use mathlib.Core.Bool.{Bool, true, false, not, _&&_, _||_}
+use mathlib.Core.Bool.{Bool, false, not, _&&_}
 use mathlib.Core.List.{List}
-use Prim.Native.Nat.{ℕ, _+_, _*_}
-use lib.Dec.{eqb, ltb}
-use lib.ListN.{length, replicate}
+use Prim.Native.Nat.{ℕ, _+_}
+use lib.ListN.{replicate}
 use Rattle.octets.specs.Scan.{if_then_else_}
 use Rattle.octets.specs.Octets.{part, same, higher}
 use Rattle.groups.specs.Groups.{width, scalarLength, indexOf, mark, firstLeft, freshAt, freshFor}
@@ -16,7 +15,7 @@ use Rattle.record.specs.declared.Peer.{Peer}
 use Rattle.acts.specs.declared.Frames.the-variants.{None, One, Two}
 use Rattle.acts.specs.declared.Step.{Step}
 use Rattle.acts.specs.declared.Event.the-variants as event
-use Rattle.acts.specs.Acts.{_is_, _isnt_, _above_, holds, Timing, commitFrame, tokenRequestFrame, groupRefusalFrame, confirmFrame, deadline, delay, withRun, withLink, counting, setT0, sending, answering, abandoning, retransmitting, dropping, forming, accepting, endingLink, t0Due}
+use Rattle.acts.specs.Acts.{_is_, _isnt_, _above_, holds, Timing, commitFrame, tokenRequestFrame, groupRefusalFrame, confirmFrame, withLink, counting, setT0, sending, answering, abandoning, retransmitting, dropping, forming, accepting, endingLink, t0Due}
 use Rattle.machine.specs.declared.Received.{Received}
 
 -- ---- Start: "Committed, first group, fresh commit, Sync 0, no token, send Commit, set t0."

@@ -1,18 +1,17 @@
 -- What octets say always fits: their table is that of its octets again. A record that fits, placed, leaves a table that fits.
-use mathlib.Core.Path.{_≡_, refl, sym, ap, _∙_}
-use mathlib.Core.List.{List, [], _∷_, _++_}
+use mathlib.Core.Path.{_≡_, _∙_}
+use mathlib.Core.List.{List}
 use Prim.Native.Nat.{ℕ, zero, suc, _+_, _-_, _*_, _/_, _≤_, _<_}
 use native.Mathlib.Omega.{arith}
 use lib.ListN.{length, take, drop, getD, set, length-drop}
 use lib.Seq.{length-take-le}
 use Rattle.octets.specs.Octets.{part, Bytes}
-use Rattle.octets.specs.Scan.{countBelow}
 use Rattle.octets.proofs.Laws.{bytes-part, bytes-drop}
 use Rattle.octets.proofs.Scan.{count-le}
 use Rattle.groups.specs.Groups.{width}
 use Rattle.record.specs.declared.Peer.{Peer}
-use Rattle.record.specs.Layout.{noPeer, counted}
-use Rattle.record.proofs.Laws.{FitPeer, FitHeader, fit-peer, fit-header}
+use Rattle.record.specs.Layout.{noPeer}
+use Rattle.record.proofs.Laws.{FitPeer, fit-peer, fit-header}
 use Rattle.table.specs.Table.{Table, size, decodeTable, encodeTable, peersOf, slots, slot, inUse, running, recounted, stored, placed, usedCount, openCount}
 use Rattle.table.proofs.Octets.{Fits, none, more, FitTable, bytes-table}
 

@@ -1,28 +1,27 @@
 -- The table that set up makes: its octets, and that it is sound.
 use mathlib.Core.Path.{_≡_, refl, sym, ap, _∙_, subst}
-use mathlib.Core.Bool.{Bool, true, false, not, _&&_, _||_}
+use mathlib.Core.Bool.{Bool, true, false, not, _&&_}
 use mathlib.Core.List.{List, [], _∷_, _++_, append-nil}
 use Prim.Native.Nat.{ℕ, zero, suc, _+_, _-_, _*_, _/_, _%_, _≤_, _<_}
 use native.Mathlib.Omega.{arith}
 use native.Mathlib.Decide.{ℕ-discrete}
 use lib.Dec.{eqb, leb, lit<}
-use lib.ListN.{length, take, drop, getD, set, replicate, length-replicate, length-drop, drop-of-length-le}
+use lib.ListN.{length, take, drop, getD, replicate, length-replicate, length-drop, drop-of-length-le}
 use lib.Seq.{length-take-le, drop-at}
 use borrow.Rule.Slice.PartMut.{putMid}
-use borrow.Author.Tests.{eqb-true, leb-true, eq-eqb, le-leb, lt-leb, ne-eqb, not-true, not-false}
+use borrow.Author.Tests.{eqb-true, leb-true, eq-eqb, ne-eqb, not-true, not-false}
 use Rattle.octets.specs.Octets.{Bytes, num, zeroAddress, put}
 use Rattle.octets.proofs.Laws.{mid-put}
-use Rattle.octets.specs.Scan.{if_then_else_, countBelow, allBelow}
-use Rattle.octets.proofs.Scan.{clash, and-left, and-right, and-both}
-use Rattle.groups.specs.Groups.{width}
+use Rattle.octets.specs.Scan.{if_then_else_, countBelow}
+use Rattle.octets.proofs.Scan.{clash, and-left, and-right}
 use Rattle.record.specs.declared.Peer.{Peer}
 use Rattle.record.specs.declared.Header.{Header}
 use Rattle.record.specs.declared.Settings.{Settings}
-use Rattle.record.specs.Layout.{noPeer, noRun, encodeHeader, encodePeer, groupsOf}
-use Rattle.record.proofs.Laws.{fit-no-peer, zero-peer, FitHeader}
-use Rattle.form.specs.Form.{ownOk, settingsOk, groupsOk, headerOk, peerOk}
+use Rattle.record.specs.Layout.{noPeer, noRun, encodeHeader}
+use Rattle.record.proofs.Laws.{fit-no-peer, zero-peer}
+use Rattle.form.specs.Form.{ownOk, settingsOk, groupsOk, peerOk}
 use Rattle.form.proofs.Laws.{form-header, no-peer-ok}
-use Rattle.table.specs.Table.{Table, size, octetsOf, encodeTable, decodeTable, slot, slots, inUse, running, holds, usedCount, openCount, sound}
+use Rattle.table.specs.Table.{size, octetsOf, encodeTable, decodeTable, slot, slots, inUse, running, holds, usedCount, openCount, sound}
 use Rattle.table.specs.Fresh.{slotsFor, lengthOk, freshHeader, freshTable, freshOk, initial}
 use Rattle.table.proofs.Octets.{Fits, none, more, FitTable, decode-encode, bytes-table}
 use Rattle.table.proofs.Kept.{Form, form-sound}

@@ -1,31 +1,31 @@
 -- The form is kept: a good record placed in a sound table leaves a sound table, and every other record as it was.
 use mathlib.Core.Path.{_≡_, refl, sym, ap, _∙_, subst}
 use mathlib.Core.Logic.{_⊎_, inl, inr}
-use mathlib.Core.Bool.{Bool, true, false, not, _&&_, _||_}
-use mathlib.Core.List.{List, [], _∷_}
-use Prim.Native.Nat.{ℕ, zero, suc, _+_, _*_, _≤_, _<_}
+use mathlib.Core.Bool.{Bool, true, false, not, _||_}
+use mathlib.Core.List.{List}
+use Prim.Native.Nat.{ℕ, zero, suc, _+_, _*_, _<_}
 use native.Mathlib.Omega.{arith}
 use native.Mathlib.Decide.{ℕ-discrete, decLt}
 use native.Mathlib.Numerals.{add-one}
-use lib.Dec.{eqb, leb}
-use lib.ListN.{length, getD, set, length-set}
+use lib.Dec.{eqb}
+use lib.ListN.{length, length-set}
 use lib.Seq.{set-getD}
-use borrow.Author.Tests.{eqb-true, eq-eqb, le-leb, not-true, not-false}
+use borrow.Author.Tests.{eqb-true, eq-eqb, not-true}
 use Rattle.octets.specs.Octets.{num, Bytes, sameAddress}
-use Rattle.octets.specs.Scan.{allBelow, countBelow, firstBelow}
+use Rattle.octets.specs.Scan.{allBelow, firstBelow}
 use Rattle.octets.specs.declared.Found.{Found}
 use Rattle.octets.specs.declared.Found.the-variants.{At, Nothing}
-use Rattle.octets.proofs.Scan.{clash, cases, and-left, and-right, and-both, all-true, all-of, first-at, first-nothing, first-none, first-more, first-ext, first-hit}
+use Rattle.octets.proofs.Scan.{clash, cases, and-left, and-right, and-both, all-true, all-of, first-none, first-more, first-ext, first-hit}
 use Rattle.groups.specs.Groups.{width}
 use Rattle.record.specs.declared.Peer.{Peer}
-use Rattle.record.specs.declared.Header.{Header}
-use Rattle.record.specs.Layout.{counted, groupsOf, noPeer}
-use Rattle.record.proofs.Laws.{FitPeer, ShapePeer}
+use Rattle.record.specs.Layout.{groupsOf, noPeer}
+use Rattle.record.proofs.Laws.{FitPeer}
 use Rattle.form.specs.Form.{headerOk, peerOk}
 use Rattle.form.proofs.Laws.{header-counted}
-use Rattle.table.specs.Table.{Table, size, decodeTable, encodeTable, slot, slots, inUse, running, holds, alone, slotsOk, addressesOk, countsOk, sound, usedCount, openCount, stored, placed, recounted, finds, look, lookBy}
+use Rattle.table.specs.Table.{Table, size, decodeTable, encodeTable, slot, slots, inUse, holds, alone, slotsOk, addressesOk, countsOk, sound, usedCount, openCount, stored, placed, recounted, finds, look, lookBy}
 use Rattle.table.proofs.Octets.{FitTable, decode-encode, encode-decode, length-table}
-use Rattle.table.proofs.Laws.{sound-header, sound-whole, sound-slots, sound-addresses, sound-counts, sound-peer, sound-of, slot-same, slot-other, peers-held, found-below}
+use Rattle.table.proofs.Laws.{sound-header, sound-whole, sound-addresses, sound-counts, sound-peer, sound-of, slot-same, slot-other, peers-held, found-below}
+use Rattle.table.proofs.Changed.{recounted-same}
 use Rattle.table.proofs.Fit.{fit-decoded, fit-placed}
 
 -- two records with one address: addresses are the same where their numbers are
@@ -277,17 +277,13 @@ unfolding look lookBy
 look-same T k p a l h A u = ap (lookBy (placed T k p)) (sym (finds-same T k p a l h A u)) ∙ placed-same T k p l
 
 -- the record that was there, placed again, leaves every octet
-stored-own : (T : Table) (k : ℕ) → stored T k (slot T k) ≡ T
+pub stored-own : (T : Table) (k : ℕ) → stored T k (slot T k) ≡ T
 unfolding stored slot
 stored-own T k = λ i. record { header = T .header; peers = set-getD (T .peers) k noPeer i }
-
-recounted-own : (T : Table) → T .header .used ≡ usedCount T → T .header .opened ≡ openCount T → recounted T ≡ T
-unfolding recounted
-recounted-own T u o = λ i. record { header = counted (T .header) (sym u i) (sym o i); peers = T .peers }
 
 pub placed-again : (t : List ℕ) (k : ℕ) → Bytes t → sound t ≡ true → encodeTable (placed (decodeTable t) k (slot (decodeTable t) k)) ≡ t
 unfolding placed
 placed-again t k b s =
     let F = sound-form t s in
-    ap (λ (T : Table). encodeTable (recounted T)) (stored-own (decodeTable t) k) ∙ ap encodeTable (recounted-own (decodeTable t) (F .used) (F .opened))
+    ap (λ (T : Table). encodeTable (recounted T)) (stored-own (decodeTable t) k) ∙ ap encodeTable (recounted-same (decodeTable t) (F .used) (F .opened))
     ∙ encode-decode t (slots (decodeTable t)) b (sound-whole t s)

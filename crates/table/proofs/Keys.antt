@@ -2,17 +2,17 @@
 use mathlib.Core.Path.{_≡_, refl, sym, ap, _∙_}
 use mathlib.Core.Logic.{_⊎_, inl, inr}
 use mathlib.Core.Bool.{Bool, true, false, not, _&&_, _||_}
-use mathlib.Core.List.{List, [], _∷_}
-use Prim.Native.Nat.{ℕ, zero, suc, _+_, _≤_, _<_}
+use mathlib.Core.List.{List}
+use Prim.Native.Nat.{ℕ, _+_, _≤_, _<_}
 use native.Mathlib.Omega.{arith}
 use native.Mathlib.Numerals.{add-one}
 use native.Mathlib.Decide.{ℕ-discrete}
 use lib.Dec.{eqb}
-use lib.ListN.{length, getD, set, replicate, length-replicate, getD-replicate}
-use lib.Seq.{getD-set-same, getD-set-other, ext-getD}
-use borrow.Author.Tests.{eq-eqb, ne-eqb, eqb-true}
+use lib.ListN.{length, getD, set}
+use lib.Seq.{getD-set-same, getD-set-other}
+use borrow.Author.Tests.{eq-eqb, ne-eqb}
 use Rattle.octets.specs.Octets.{num, sameAddress}
-use Rattle.octets.specs.Scan.{allBelow, if_then_else_}
+use Rattle.octets.specs.Scan.{allBelow}
 use Rattle.octets.proofs.Scan.{cases, all-ext}
 use Rattle.record.specs.declared.Peer.{Peer}
 use Rattle.table.specs.Table.{Table, slot, inUse, holds, alone, key, newKey}
@@ -58,7 +58,7 @@ new-alone T keys n h k l = go (cases (inUse (slot T k)))
         let e : getD keys k 0 ≡ 0 = h k l ∙ key-free (slot T k) u in
         rw (e, u) refl
 
--- what `addresses_ok` shows
+-- what `differ_in` shows
 pub addresses-law : (T : Table) (keys : List ℕ) (n : ℕ) (r : Bool) → ((k : ℕ) → k < n → getD keys k 0 ≡ key (slot T k)) → r ≡ allBelow (newKey keys) n → r ≡ allBelow (alone T) n
 addresses-law T keys n r h e = e ∙ all-ext (newKey keys) (alone T) n (new-alone T keys n h)
 
@@ -90,16 +90,17 @@ any-more f i a b p q = rw (add-one, p, q) (go (allBelow f i) b)
     go true false = refl
     go false y = refl
 
-pub new-law : (keys : List ℕ) (k j x : ℕ) (any : Bool) → x ≡ getD keys k 0 → j ≤ k → k ≤ j → any ≡ not (allBelow (λ i. not (eqb (getD keys i 0) x)) j) → (eqb x 0 || not any) ≡ newKey keys k
+pub new-zero : (keys : List ℕ) (k x : ℕ) → x ≡ getD keys k 0 → x ≡ 0 → true ≡ newKey keys k
 unfolding newKey
-new-law keys k j x any e h l p =
+new-zero keys k x e z = let q : getD keys k 0 ≡ 0 = sym e ∙ z in sym (rw q refl)
+
+pub new-law : (keys : List ℕ) (k j x : ℕ) (any : Bool) → x ≡ getD keys k 0 → (x ≡ 0 → ⊥) → j ≤ k → k ≤ j → any ≡ not (allBelow (λ i. not (eqb (getD keys i 0) x)) j) → not any ≡ newKey keys k
+unfolding newKey
+new-law keys k j x any e d h l p =
     let q : j ≡ k = omega arith in
-    rw (p, q, e) (ap (λ (b : Bool). eqb (getD keys k 0) 0 || b) (twice _))
+    let z : eqb (getD keys k 0) 0 ≡ false = ne-eqb _ _ (λ w. d (e ∙ w)) in
+    rw (p, q, e, z) (twice _)
   where
     twice : (b : Bool) → not (not b) ≡ b
     twice true = refl
     twice false = refl
-
--- what a loop of zeros leaves
-pub zeros-law : (s : List ℕ) (n i : ℕ) → length s ≡ n → length s ≤ i → ((k : ℕ) → k < i → getD s k 0 ≡ 0) → s ≡ replicate n 0
-zeros-law s n i l h z = ext-getD 0 s (replicate n 0) (l ∙ sym (length-replicate n 0)) (λ k m. z k (omega arith) ∙ sym (getD-replicate n k 0 0 (omega arith)))

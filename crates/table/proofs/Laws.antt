@@ -1,27 +1,26 @@
 -- Laws of the table as a value: what soundness says, what the searches find, a record stored.
-use mathlib.Core.Path.{_≡_, refl, sym, ap, _∙_, subst}
-use mathlib.Core.Logic.{_⊎_, inl, inr}
-use mathlib.Core.Bool.{Bool, true, false, not, _&&_, _||_}
-use mathlib.Core.List.{List, [], _∷_, _++_}
+use mathlib.Core.Path.{_≡_, refl, sym, ap, _∙_}
+use mathlib.Core.Bool.{Bool, true, false, not, _&&_}
+use mathlib.Core.List.{List}
 use Prim.Native.Nat.{ℕ, zero, suc, _+_, _-_, _*_, _/_, _≤_, _<_}
 use native.Mathlib.Omega.{arith}
 use native.Mathlib.Decide.{ℕ-discrete}
 use lib.Dec.{eqb, leb}
-use lib.ListN.{length, take, getD, set, length-set}
+use lib.ListN.{length}
 use lib.Seq.{getD-set-same, getD-set-other}
 use borrow.Author.Tests.{eqb-true, leb-true, eq-eqb, le-leb, lt-leb, ne-eqb, not-true, not-false}
 use Rattle.octets.specs.Octets.{num, sameAddress}
 use Rattle.octets.specs.Scan.{if_then_else_, allBelow, countBelow, firstBelow, lastBelow, bit}
 use Rattle.octets.specs.declared.Found.{Found}
 use Rattle.octets.specs.declared.Found.the-variants.{At, Nothing}
-use Rattle.octets.proofs.Scan.{clash, cases, and-left, and-right, and-both, all-true, all-of, first-at, first-nothing, first-ext, last-at, count-but, count-le, bit-le}
-use Rattle.groups.specs.Groups.{width}
+use Rattle.octets.proofs.Scan.{and-left, and-right, and-both, all-true, first-at, first-nothing, last-at, count-but, count-le, bit-le}
 use Rattle.record.specs.declared.Peer.{Peer}
 use Rattle.record.specs.declared.Header.{Header}
 use Rattle.record.specs.Layout.{groupsOf}
-use Rattle.form.specs.Form.{usable, headerOk, groupsOk, peerOk}
+use Rattle.form.specs.Form.{usable, headerOk, peerOk}
 use Rattle.form.proofs.Laws.{header-form, groups-form}
-use Rattle.table.specs.Table.{Table, size, decodeTable, encodeTable, slot, slots, inUse, running, holds, alone, slotsOk, addressesOk, countsOk, sound, usedCount, openCount, finds, freeSlot, entry, foundEntry, stored, placed, recounted, Ready, Whole, peersOf}
+use Rattle.table.specs.Table.{Table, size, decodeTable, slot, slots, inUse, running, holds, alone, slotsOk, addressesOk, countsOk, sound, usedCount, openCount, finds, freeSlot, entry, foundEntry, stored, standingOf, Changed, Ready, Whole}
+use Rattle.table.specs.declared.Standing.{Standing}
 use Rattle.table.specs.declared.Entry.{Entry}
 use Rattle.table.specs.declared.Entry.the-variants as entry-is
 use Rattle.table.proofs.Octets.{length-peers}
@@ -208,47 +207,48 @@ pub peers-held : (t : List ℕ) (n : ℕ) → length t ≡ 32 + size * n → len
 unfolding decodeTable
 peers-held t n h = let q : (length t - 32) / size ≡ n = omega arith in length-peers _ _ ∙ q
 
--- what `counts_with` shows
-count-has : (f : ℕ → Bool) (n i : ℕ) → i < n → bit (f i) ≤ countBelow f n
+-- what `standing_of` shows
+pub standing-law : (T : Table) (k : ℕ) (u r : Bool) → u ≡ inUse (slot T k) → r ≡ running (slot T k) → _≡_ {A = Standing} (record { used = u; running = r }) (standingOf (slot T k))
+standing-law T k u r e q = λ i. record { used = e i; running = q i }
+
+-- what `counts_after` shows: one slot's share is in the count, and the count of the others leaves room for it
+count-has : (f : ℕ → Bool) (n i : ℕ) → i < n → (bit (f i) ≤ countBelow f n) × (countBelow f n + 1 ≤ n + bit (f i))
 unfolding countBelow
 count-has f zero i h = absurd (omega arith)
 count-has f (suc n) i h = elim (ℕ-discrete i n) [
-  | yes e ↦ rw e (omega arith)
-  | no d ↦ omega (arith, count-has f n i (omega arith))
+  | yes e ↦ rw e (omega arith, omega (arith, count-le f n))
+  | no d ↦ let w = count-has f n i (omega arith) in (omega (arith, w .0), omega (arith, w .1, bit-le (f n)))
 ]
 
-balance : (r n u v a b : ℕ) → r + a ≡ n + b → n ≡ u → u + b ≡ v + a → r ≡ v
-balance r n u v a b p q e = omega arith
+share : (f : ℕ → Bool) (n k x : ℕ) (was : Bool) → k < n → n ≤ 64 → x + bit (f k) ≡ countBelow f n + bit was → (bit was ≤ x) × (x ≤ 64)
+share f n k x was h l e = let w = count-has f n k h in (omega (arith, w .0), omega (arith, w .1, bit-le was))
 
-module _ (t : List ℕ) (k : ℕ) (p : Peer) (R : Ready t k) (h : Header) (e : h ≡ decodeTable t .header) where
-  pub share-used : (was : Bool) → was ≡ inUse (slot (decodeTable t) k) → (bit was ≤ h .used) × (h .used ≤ 64)
+balance : (r x u : ℕ) (was is : Bool) → r + bit was ≡ x + bit is → x + bit is ≡ u + bit was → r ≡ u
+balance r x u was is p q = omega arith
+
+module _ (t : List ℕ) (k : ℕ) (was : Standing) (C : Changed t k was) (h : Header) (e : h ≡ decodeTable t .header) where
+  below : k < slots (decodeTable t)
+  below = omega (arith, C .fits, C .whole)
+
+  used-now : h .used + bit (inUse (slot (decodeTable t) k)) ≡ usedCount (decodeTable t) + bit (was .used)
+  used-now = ap (λ (g : Header). g .used + bit (inUse (slot (decodeTable t) k))) e ∙ C .used
+
+  open-now : h .opened + bit (running (slot (decodeTable t) k)) ≡ openCount (decodeTable t) + bit (was .running)
+  open-now = ap (λ (g : Header). g .opened + bit (running (slot (decodeTable t) k))) e ∙ C .opened
+
+  pub share-used : (bit (was .used) ≤ h .used) × (h .used ≤ 64)
   unfolding usedCount
-  share-used was q =
-      let u : h .used ≡ usedCount (decodeTable t) = ap (λ (g : Header). g .used) e ∙ R .used in
-      let a : bit was ≤ usedCount (decodeTable t) = rw q (count-has (λ j. inUse (slot (decodeTable t) j)) (slots (decodeTable t)) k (R .below)) in
-      let b : usedCount (decodeTable t) ≤ slots (decodeTable t) = count-le (λ j. inUse (slot (decodeTable t) j)) (slots (decodeTable t)) in
-      (rw u a, omega (arith, R .small))
+  share-used = share (λ j. inUse (slot (decodeTable t) j)) (slots (decodeTable t)) k (h .used) (was .used) below (C .small) used-now
 
-  pub share-open : (was : Bool) → was ≡ running (slot (decodeTable t) k) → (bit was ≤ h .opened) × (h .opened ≤ 64)
+  pub share-open : (bit (was .running) ≤ h .opened) × (h .opened ≤ 64)
   unfolding openCount
-  share-open was q =
-      let u : h .opened ≡ openCount (decodeTable t) = ap (λ (g : Header). g .opened) e ∙ R .opened in
-      let a : bit was ≤ openCount (decodeTable t) = rw q (count-has (λ j. running (slot (decodeTable t) j)) (slots (decodeTable t)) k (R .below)) in
-      let b : openCount (decodeTable t) ≤ slots (decodeTable t) = count-le (λ j. running (slot (decodeTable t) j)) (slots (decodeTable t)) in
-      (rw u a, omega (arith, R .small))
+  share-open = share (λ j. running (slot (decodeTable t) j)) (slots (decodeTable t)) k (h .opened) (was .running) below (C .small) open-now
 
-  in-peers : k < length (decodeTable t .peers)
-  in-peers = omega (arith, peers-held t (slots (decodeTable t)) (R .whole), R .below)
+  pub after-used : (is : Bool) (r : ℕ) → is ≡ inUse (slot (decodeTable t) k) → r + bit (was .used) ≡ h .used + bit is → r ≡ usedCount (decodeTable t)
+  after-used is r q w = balance r (h .used) _ (was .used) is w (ap (λ (b : Bool). h .used + bit b) q ∙ used-now)
 
-  pub after-used : (was : Bool) (r : ℕ) → was ≡ inUse (slot (decodeTable t) k) → r + bit was ≡ h .used + bit (inUse p) → r ≡ usedCount (stored (decodeTable t) k p)
-  after-used was r q w =
-      balance r (h .used) (usedCount (decodeTable t)) _ (bit was) (bit (inUse p)) w (ap (λ (g : Header). g .used) e ∙ R .used)
-      (rw q (used-stored (decodeTable t) k p (R .below) in-peers))
-
-  pub after-open : (was : Bool) (r : ℕ) → was ≡ running (slot (decodeTable t) k) → r + bit was ≡ h .opened + bit (running p) → r ≡ openCount (stored (decodeTable t) k p)
-  after-open was r q w =
-      balance r (h .opened) (openCount (decodeTable t)) _ (bit was) (bit (running p)) w (ap (λ (g : Header). g .opened) e ∙ R .opened)
-      (rw q (open-stored (decodeTable t) k p (R .below) in-peers))
+  pub after-open : (is : Bool) (r : ℕ) → is ≡ running (slot (decodeTable t) k) → r + bit (was .running) ≡ h .opened + bit is → r ≡ openCount (decodeTable t)
+  after-open is r q w = balance r (h .opened) _ (was .running) is w (ap (λ (b : Bool). h .opened + bit b) q ∙ open-now)
 
 -- what `slots_of` shows
 pub slots-law : (t : List ℕ) (h : Header) → sound t ≡ true → h ≡ decodeTable t .header → (h .slots ≡ slots (decodeTable t)) × (32 + size * h .slots ≡ length t)

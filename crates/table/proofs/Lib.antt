@@ -2,6 +2,7 @@
 pub mod Octets
 pub mod Fit
 pub mod Laws
+pub mod Changed
 pub mod Kept
 pub mod Keys
 pub mod Fresh

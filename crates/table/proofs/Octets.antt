@@ -4,20 +4,17 @@ use mathlib.Core.Logic.{_⊎_, inl, inr}
 use mathlib.Core.List.{List, [], _∷_, _++_, append-assoc}
 use Prim.Native.Nat.{ℕ, zero, suc, _+_, _-_, _*_, _/_, _≤_, _<_}
 use native.Mathlib.Omega.{arith}
-use native.Mathlib.Nat.{zero-add}
 use lib.Dec.{lit≤}
-use lib.ListN.{length, take, drop, getD, set, length-append, length-take, length-drop, take-append-drop}
-use lib.Seq.{length-take-le, take-at, drop-at, take-add, drop-drop, take-append-le}
-use borrow.Rule.Slice.PartMut.{putMid}
+use lib.ListN.{length, take, drop, getD, set, length-append, length-drop, take-append-drop}
+use lib.Seq.{length-take-le, take-at, drop-at, take-add, drop-drop}
 use Rattle.octets.specs.Octets.{part, put, num, oct, Bytes}
-use Rattle.octets.proofs.Laws.{bytes-part, bytes-drop, bytes-append, part-part, length-part, length-put, length-oct, mid-put, part-put-before, part-put-after}
+use Rattle.octets.proofs.Laws.{bytes-part, bytes-drop, bytes-append, part-part, length-put, length-oct, part-put-before, part-put-after}
 use Rattle.groups.specs.Groups.{width}
-use Rattle.record.specs.Layout.{encodePeer, decodePeer, decodeRun, runOf, runWidths, encodeHeader, decodeHeader, counted, noPeer, runSize, linkSize}
-use Rattle.record.specs.Codec.{cut, total}
+use Rattle.record.specs.Layout.{encodePeer, decodePeer, decodeRun, runOf, runWidths, encodeHeader, decodeHeader, counted, noPeer, runSize}
+use Rattle.record.specs.Codec.{cut}
 use Rattle.record.specs.declared.Peer.{Peer}
-use Rattle.record.specs.declared.Header.{Header}
 use Rattle.record.proofs.Laws.{enc-dec-peer, dec-enc-peer, ShapePeer, FitPeer, shape-peer, length-peer, bytes-peer, peer-at, enc-dec-header, dec-enc-header, length-header, bytes-header, header-front, counted-put, num-part, FitHeader}
-use Rattle.table.specs.Table.{Table, size, peersOf, octetsOf, decodeTable, encodeTable, slot, slots, recounted, stored, placed, usedCount, openCount}
+use Rattle.table.specs.Table.{Table, size, peersOf, octetsOf, decodeTable, encodeTable, slot, recounted, stored, placed, usedCount, openCount}
 
 -- the record that lies in a slot's octets
 unfoldable pub recordAt : List ℕ → ℕ → Peer
@@ -25,7 +22,7 @@ recordAt t k = decodePeer width (part t (32 + size * k) size)
 
 -- ---- octets split at a seam
 
-put-after : (a b : ℕ) (s v : List ℕ) → take a s ++ put (drop a s) b v ≡ put s (a + b) v
+pub put-after : (a b : ℕ) (s v : List ℕ) → take a s ++ put (drop a s) b v ≡ put s (a + b) v
 unfolding put
 put-after a b s v =
     let p : take (a + b) s ≡ take a s ++ take b (drop a s) = take-add a b s in
@@ -33,7 +30,7 @@ put-after a b s v =
     let q : drop (b + length v) (drop a s) ≡ drop (a + b + length v) s = drop-drop (b + length v) a s ∙ ap (λ (n : ℕ). drop n s) r in
     rw (p, q) (simp append-assoc)
 
-put-front : (s v : List ℕ) (n : ℕ) → length v ≡ n → put s 0 v ≡ v ++ drop n s
+pub put-front : (s v : List ℕ) (n : ℕ) → length v ≡ n → put s 0 v ≡ v ++ drop n s
 unfolding put
 put-front s v n e = let q : 0 + length v ≡ n = omega arith in ap (λ (k : ℕ). v ++ drop k s) q
 
@@ -124,22 +121,25 @@ stored-octets t n k p b h l f =
     let m : length (drop 32 t) ≡ size * n = length-drop 32 t ∙ omega arith in
     rw (q, enc-dec-header t b (omega arith), set-octets n k (drop 32 t) p (bytes-drop 32 t b) m l (length-peer width p f)) (put-after 32 (size * k) t (encodePeer p))
 
+counts-put : (T : Table) (u o : ℕ) → put (encodeTable T) 2 (oct 2 u ++ oct 2 o) ≡ encodeTable (record { header = counted (T .header) u o; peers = T .peers })
+unfolding encodeTable
+counts-put T u o = counted-put (T .header) (octetsOf (T .peers)) u o
+
+-- what `recount` shows
+pub recount-law : (t v : List ℕ) (n u o : ℕ) → Bytes t → length t ≡ 32 + size * n → v ≡ put t 2 (oct 2 u ++ oct 2 o)
+    → u ≡ usedCount (decodeTable t) → o ≡ openCount (decodeTable t) → v ≡ encodeTable (recounted (decodeTable t))
+unfolding recounted
+recount-law t v n u o b h e eu eo =
+    e ∙ ap (λ (x : List ℕ). put x 2 (oct 2 u ++ oct 2 o)) (sym (encode-decode t n b h)) ∙ counts-put (decodeTable t) u o
+    ∙ (λ i. encodeTable (record { header = counted (decodeTable t .header) (eu i) (eo i); peers = decodeTable t .peers }))
+
 -- A RECORD PLACED, with its counts, is two puts
 pub placed-octets : (t : List ℕ) (n k : ℕ) (p : Peer) → Bytes t → length t ≡ 32 + size * n → k < n → ShapePeer width p
     → encodeTable (placed (decodeTable t) k p) ≡
     put (put t (32 + size * k) (encodePeer p)) 2 (oct 2 (usedCount (stored (decodeTable t) k p)) ++ oct 2 (openCount (stored (decodeTable t) k p)))
-unfolding placed recounted encodeTable
+unfolding placed recounted
 placed-octets t n k p b h l f =
     sym (ap (λ (x : List ℕ). put x 2 (oct 2 (usedCount (stored (decodeTable t) k p)) ++ oct 2 (openCount (stored (decodeTable t) k p)))) (sym (stored-octets t n k p b h l f)) ∙ counts-put (stored (decodeTable t) k p) _ _)
-  where
-    counts-put : (T : Table) (u o : ℕ) → put (encodeTable T) 2 (oct 2 u ++ oct 2 o) ≡ encodeTable (record { header = counted (T .header) u o; peers = T .peers })
-    counts-put T u o = counted-put (T .header) (octetsOf (T .peers)) u o
-
-pub place-law : (t t₁ t₂ : List ℕ) (n k : ℕ) (p : Peer) (u o : ℕ) → Bytes t → length t ≡ 32 + size * n → k < n → ShapePeer width p
-    → t₁ ≡ put t (32 + size * k) (encodePeer p) → t₂ ≡ put t₁ 2 (oct 2 u ++ oct 2 o)
-    → u ≡ usedCount (stored (decodeTable t) k p) → o ≡ openCount (stored (decodeTable t) k p)
-    → t₂ ≡ encodeTable (placed (decodeTable t) k p)
-place-law t t₁ t₂ n k p u o b h l f e₁ e₂ eu eo = e₂ ∙ rw (e₁, eu, eo) (sym (placed-octets t n k p b h l f))
 
 -- EVERY OTHER OCTET stays: before the counts, between them and the slot, and past the slot
 pub placed-outside : (t : List ℕ) (n k : ℕ) (p : Peer) (at m : ℕ) → Bytes t → length t ≡ 32 + size * n → k < n → ShapePeer width p
@@ -216,6 +216,9 @@ used-at-law t k r h e = e ∙ sym (ap (λ (p : Peer). p .used) (slot-at t k h) �
 pub state-at-law : (t : List ℕ) (k r : ℕ) → 32 + size * k + size ≤ length t → r ≡ num (part t (39 + size * k) 1) → r ≡ slot (decodeTable t) k .run .state
 state-at-law t k r h e = e ∙ sym (ap (λ (p : Peer). p .run .state) (slot-at t k h) ∙ state-of t k)
 
+pub address-at-law : (t r : List ℕ) (k : ℕ) → 32 + size * k + size ≤ length t → r ≡ part t (33 + size * k) 6 → r ≡ slot (decodeTable t) k .address
+address-at-law t r k h e = e ∙ sym (ap (λ (p : Peer). p .address) (slot-at t k h) ∙ address-of t k)
+
 pub number-at-law : (t : List ℕ) (k r : ℕ) → 32 + size * k + size ≤ length t → r ≡ num (part t (33 + size * k) 6) → r ≡ num (slot (decodeTable t) k .address)
 number-at-law t k r h e = e ∙ sym (ap (λ (p : Peer). num (p .address)) (slot-at t k h) ∙ ap num (address-of t k))
 
@@ -226,12 +229,6 @@ window-law t k h = let q : 32 + size * k + size - (32 + size * k) ≡ size = ome
   where
     whole : (t : List ℕ) (k : ℕ) → decodePeer width (take size (drop (32 + size * k) t)) ≡ recordAt t k
     whole t k = refl
-
-pub store-law : (t y : List ℕ) (k : ℕ) (p : Peer) → ShapePeer width p → y ≡ encodePeer p
-    → putMid (32 + size * k) (32 + size * k + size - (32 + size * k)) t y ≡ put t (32 + size * k) (encodePeer p)
-store-law t y k p f e =
-    let q : size ≡ 32 + size * k + size - (32 + size * k) = omega arith in
-    mid-put (32 + size * k) _ t y (ap length e ∙ length-peer width p f ∙ q) ∙ ap (put t (32 + size * k)) e
 
 -- what fits has octets
 bytes-all : {ps : List Peer} → Fits ps → Bytes (octetsOf ps)

@@ -1,14 +1,13 @@
 -- The table that set up makes.
-use mathlib.Core.Bool.{Bool, true, false, not, _&&_}
-use mathlib.Core.List.{List, [], _∷_}
+use mathlib.Core.Bool.{Bool, _&&_}
+use mathlib.Core.List.{List}
 use Prim.Native.Nat.{ℕ, _+_, _-_, _*_, _/_}
 use lib.Dec.{eqb, leb}
 use lib.ListN.{length, replicate}
 use Rattle.octets.specs.Scan.{if_then_else_}
-use Rattle.groups.specs.Groups.{width}
 use Rattle.record.specs.declared.Header.{Header}
 use Rattle.record.specs.declared.Settings.{Settings}
-use Rattle.record.specs.Layout.{recordSize, noPeer}
+use Rattle.record.specs.Layout.{noPeer}
 use Rattle.form.specs.Form.{ownOk, settingsOk}
 use Rattle.table.specs.Table.{Table, size, encodeTable}
 

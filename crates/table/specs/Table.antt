@@ -1,12 +1,12 @@
 -- The lent table as a value, a header and a list of records: its octets, its form, its searches, and a record placed in a slot.
 use mathlib.Core.Path.{_≡_}
-use mathlib.Core.Bool.{Bool, true, false, not, _&&_, _||_}
+use mathlib.Core.Bool.{Bool, not, _&&_, _||_}
 use mathlib.Core.List.{List, [], _∷_, _++_}
 use Prim.Native.Nat.{ℕ, zero, suc, _+_, _-_, _*_, _/_, _≤_, _<_}
 use lib.Dec.{eqb, leb}
 use lib.ListN.{length, take, drop, getD, set}
 use Rattle.octets.specs.Octets.{num, sameAddress}
-use Rattle.octets.specs.Scan.{allBelow, countBelow, firstBelow, lastBelow, if_then_else_}
+use Rattle.octets.specs.Scan.{allBelow, countBelow, firstBelow, lastBelow, bit, if_then_else_}
 use Rattle.octets.specs.declared.Found.{Found}
 use Rattle.octets.specs.declared.Found.the-variants.{At, Nothing}
 use Rattle.groups.specs.Groups.{width}
@@ -14,6 +14,7 @@ use Rattle.record.specs.declared.Peer.{Peer}
 use Rattle.record.specs.declared.Header.{Header}
 use Rattle.record.specs.Layout.{encodePeer, decodePeer, encodeHeader, decodeHeader, counted, groupsOf, recordSize, noPeer}
 use Rattle.form.specs.Form.{usable, headerOk, peerOk}
+use Rattle.table.specs.declared.Standing.{Standing}
 use Rattle.table.specs.declared.Entry.{Entry}
 use Rattle.table.specs.declared.Entry.the-variants as entry-is
 
@@ -136,7 +137,19 @@ stored T k p = record { header = T .header; peers = set (T .peers) k p }
 unfoldable pub placed : Table → ℕ → Peer → Table
 placed T k p = recounted (stored T k p)
 
--- what `place` asks of the octets: a slot of a table whose length and counts are right
+-- what a record adds to the two counts
+abbrev pub standingOf : Peer → Standing
+standingOf p = record { used = inUse p; running = running p }
+
+-- what `recount` asks of the octets: a table of the right length whose counts are true but for one record's share, which is still what it was
+pub record Changed (t : List ℕ) (k : ℕ) (was : Standing) : Type 0 where
+  pub fits : 32 + size * k + size ≤ length t
+  pub whole : length t ≡ 32 + size * slots (decodeTable t)
+  pub small : slots (decodeTable t) ≤ 64
+  pub used : decodeTable t .header .used + bit (inUse (slot (decodeTable t) k)) ≡ usedCount (decodeTable t) + bit (was .used)
+  pub opened : decodeTable t .header .opened + bit (running (slot (decodeTable t) k)) ≡ openCount (decodeTable t) + bit (was .running)
+
+-- what a change of a slot's record asks of the octets: a slot of a table whose length and counts are right
 pub record Ready (t : List ℕ) (k : ℕ) : Type 0 where
   pub fits : 32 + size * k + size ≤ length t
   pub whole : length t ≡ 32 + size * slots (decodeTable t)

@@ -1,15 +1,15 @@
-// The lent table: its form, its searches, a record in and out of a slot, and the table that set up makes.
+// The lent table: its form, its searches, the counts after a record changed, and the table that set up makes.
 ghost use mathlib.Core.Path.{_≡_};
 ghost use mathlib.Core.Bool.{true, _&&_};
 ghost use mathlib.Core.List.{_++_};
 ghost use Prim.Native.Nat.{ℕ, _+_, _-_, _*_, _≤_, _<_};
 ghost use lib.Dec.{eqb};
 ghost use lib.ListN.{length, getD, replicate};
-ghost use Rattle.octets.specs.Octets.{put, num};
+ghost use Rattle.octets.specs.Octets.{num};
 ghost use Rattle.octets.specs.Scan.{allBelow, countBelow, firstBelow, lastBelow, bit};
-ghost use Rattle.record.specs.Layout.{encodePeer, encodeHeader};
+ghost use Rattle.record.specs.Layout.{encodeHeader};
 ghost use Rattle.form.specs.Form.{peerOk};
-ghost use Rattle.table.specs.Table.{size, decodeTable, encodeTable, slots, slot, inUse, running, finds, freeSlot, usedCount, openCount, slotsOk, alone, addressesOk, countsOk, sound, entry, stored, placed, key, newKey, Ready, Whole};
+ghost use Rattle.table.specs.Table.{size, decodeTable, encodeTable, slots, slot, inUse, running, finds, freeSlot, usedCount, openCount, slotsOk, alone, addressesOk, countsOk, sound, entry, recounted, key, newKey, standingOf, Changed, Whole};
 ghost use Rattle.table.specs.Fresh.{slotsFor, lengthOk, freshHeader, freshOk, initial};
 use octets::Found;
 use record::HEADER;
@@ -18,6 +18,9 @@ use record::Peer;
 use record::RECORD;
 use record::RUN;
 use record::Settings;
+
+// A table of at most so many slots is small.
+const FEW: usize = 8;
 
 // What every call about an address begins with.
 pub enum Entry {
@@ -38,15 +41,6 @@ pub fn load_peer(t: &[u8], k: usize) -> Peer
     record::load_peer(&t[a..e])
 }
 
-pub fn store_peer(t: &mut [u8], k: usize, p: Peer)
-    requires { ⌜ 32 + size * k + size ≤ length (now t) ⌝ }
-    ensures { λ _. ⌜ now (t .exit) ≡ put (now (t .entry)) (32 + size * k) (encodePeer p) ⌝ }
-{
-    let a = HEADER + RECORD * k;
-    let e = a + RECORD;
-    record::store_peer(&mut t[a..e], p);
-}
-
 pub fn used_at(t: &[u8], k: usize) -> u8
     requires { ⌜ 32 + size * k + size ≤ length (now t) ⌝ }
     ensures { λ r. ⌜ r ≡ slot (decodeTable (now (t .entry))) k .used ⌝ }
@@ -59,6 +53,13 @@ pub fn state_at(t: &[u8], k: usize) -> u8
     ensures { λ r. ⌜ r ≡ slot (decodeTable (now (t .entry))) k .run .state ⌝ }
 {
     octets::get8(t, HEADER + RUN + RECORD * k)
+}
+
+pub fn address_at(t: &[u8], k: usize) -> [u8; 6]
+    requires { ⌜ 32 + size * k + size ≤ length (now t) ⌝ }
+    ensures { λ r. ⌜ r ≡ slot (decodeTable (now (t .entry))) k .address ⌝ }
+{
+    octets::take6(t, HEADER + 1 + RECORD * k)
 }
 
 // The address of a slot's record, as one number.
@@ -91,6 +92,12 @@ fn has(t: &[u8], k: usize, x: u64) -> bool
     let used = is_used(t, k);
     let number = number_at(t, k);
     used & (number == x)
+}
+
+// The two counts of the header.
+pub struct Counts {
+    pub used: u16,
+    pub opened: u16,
 }
 
 // ---- searches and counts below a slot
@@ -126,30 +133,23 @@ fn free_below(t: &[u8], n: usize) -> Found
     Found::Nothing
 }
 
-fn count_used(t: &[u8], n: usize) -> usize
-    requires { ⌜ 32 + size * n ≤ length (now t) ⌝ }
-    ensures { λ r. ⌜ r ≡ countBelow (λ k. inUse (slot (decodeTable (now (t .entry))) k)) n ⌝ }
+// The two counts over the slots below n, in one pass.
+fn counts_below(t: &[u8], n: usize) -> Counts
+    requires { ⌜ (32 + size * n ≤ length (now t)) × (n ≤ 64) ⌝ }
+    ensures { λ r. ⌜ (r .used ≡ countBelow (λ k. inUse (slot (decodeTable (now (t .entry))) k)) n) × (r .opened ≡ countBelow (λ k. running (slot (decodeTable (now (t .entry))) k)) n) ⌝ }
 {
-    let mut c: usize = 0;
+    let mut used: usize = 0;
+    let mut opened: usize = 0;
     let mut i = 0;
     while i < n {
-        c += octets::one_if(is_used(t, i));
+        used += octets::one_if(is_used(t, i));
+        opened += octets::one_if(is_running(t, i));
         i += 1;
     }
-    c
-}
-
-fn count_open(t: &[u8], n: usize) -> usize
-    requires { ⌜ 32 + size * n ≤ length (now t) ⌝ }
-    ensures { λ r. ⌜ r ≡ countBelow (λ k. running (slot (decodeTable (now (t .entry))) k)) n ⌝ }
-{
-    let mut c: usize = 0;
-    let mut i = 0;
-    while i < n {
-        c += octets::one_if(is_running(t, i));
-        i += 1;
+    Counts {
+        used: used as u16,
+        opened: opened as u16,
     }
-    c
 }
 
 // ---- the form of the table
@@ -191,34 +191,35 @@ fn key_at(t: &[u8], k: usize) -> u64
     0
 }
 
-// The keys of all slots, side by side.
-fn keys_of(t: &[u8], n: usize) -> [u64; 64]
-    requires { ⌜ (32 + size * n ≤ length (now t)) × (n ≤ 64) ⌝ }
-    ensures { λ r. ⌜ ((k : ℕ) → k < n → getD r k 0 ≡ key (slot (decodeTable (now (t .entry))) k)) ⌝ }
+// The keys of the first n slots, side by side.
+fn fill_keys(t: &[u8], n: usize, keys: &mut [u64])
+    requires { ⌜ (32 + size * n ≤ length (now t)) × (n ≤ length (now keys)) ⌝ }
+    ensures { λ _. ⌜ ((k : ℕ) → k < n → getD (now (keys .exit)) k 0 ≡ key (slot (decodeTable (now (t .entry))) k)) ⌝ }
 {
-    let mut keys = [0u64; 64];
     let mut i = 0;
     while i < n {
         let x = key_at(t, i);
         keys[i] = x;
         i += 1;
     }
-    keys
 }
 
-// No key before is the same: all are compared, with no early way out.
+// No key before is the same: all are compared, with no early way out. A free slot's key is compared with none.
 fn is_new(keys: &[u64], k: usize) -> bool
     requires { ⌜ k < length (now keys) ⌝ }
     ensures { λ r. ⌜ r ≡ newKey (now (keys .entry)) k ⌝ }
 {
     let x = keys[k];
+    if x == 0 {
+        return true;
+    }
     let mut any = false;
     let mut j = 0;
     while j < k {
         any = any | (keys[j] == x);
         j += 1;
     }
-    (x == 0) | !any
+    !any
 }
 
 fn all_new(keys: &[u64], n: usize) -> bool
@@ -236,22 +237,34 @@ fn all_new(keys: &[u64], n: usize) -> bool
     true
 }
 
-// The addresses of the slots in use differ.
+// The addresses of the slots in use differ; their keys are laid out in what is lent.
+fn differ_in(t: &[u8], n: usize, keys: &mut [u64]) -> bool
+    requires { ⌜ (32 + size * n ≤ length (now t)) × (n ≤ length (now keys)) ⌝ }
+    ensures { λ r. ⌜ r ≡ allBelow (alone (decodeTable (now (t .entry)))) n ⌝ }
+{
+    fill_keys(t, n, keys);
+    all_new(keys, n)
+}
+
+// The same, with no more room for keys than a small table needs.
 fn addresses_ok(t: &[u8], n: usize) -> bool
     requires { ⌜ (32 + size * n ≤ length (now t)) × (n ≤ 64) ⌝ }
     ensures { λ r. ⌜ r ≡ allBelow (alone (decodeTable (now (t .entry)))) n ⌝ }
 {
-    let keys = keys_of(t, n);
-    all_new(&keys[..], n)
+    if n <= FEW {
+        let mut few = [0u64; FEW];
+        return differ_in(t, n, &mut few[..]);
+    }
+    let mut keys = [0u64; 64];
+    differ_in(t, n, &mut keys[..])
 }
 
 fn counts_ok(t: &[u8], h: Header, n: usize) -> bool
-    requires { ⌜ (32 + size * n ≤ length (now t)) × ((h ≡ decodeTable (now t) .header) × (n ≡ decodeTable (now t) .header .slots)) ⌝ }
+    requires { ⌜ (32 + size * n ≤ length (now t)) × ((n ≤ 64) × ((h ≡ decodeTable (now t) .header) × (n ≡ decodeTable (now t) .header .slots))) ⌝ }
     ensures { λ r. ⌜ r ≡ countsOk (decodeTable (now (t .entry))) ⌝ }
 {
-    let used = count_used(t, n);
-    let opened = count_open(t, n);
-    (h.used as usize == used) & (h.opened as usize == opened)
+    let counts = counts_below(t, n);
+    (h.used == counts.used) & (h.opened == counts.opened)
 }
 
 // The slots, their addresses and the counts, under a header of the right form.
@@ -340,7 +353,25 @@ pub fn enter(t: &[u8], a: [u8; 6]) -> Entry
     }
 }
 
-// ---- a record placed
+// ---- a record changed where it lies
+
+// What a record adds to the two counts.
+pub struct Standing {
+    pub used: bool,
+    pub running: bool,
+}
+
+pub fn standing_of(t: &[u8], k: usize) -> Standing
+    requires { ⌜ 32 + size * k + size ≤ length (now t) ⌝ }
+    ensures { λ r. ⌜ r ≡ standingOf (slot (decodeTable (now (t .entry))) k) ⌝ }
+{
+    let used = is_used(t, k);
+    let running = is_running(t, k);
+    Standing {
+        used: used,
+        running: running,
+    }
+}
 
 // A count that loses one record's share and takes another's.
 fn moved(n: u16, was: bool, is: bool) -> u16
@@ -352,33 +383,26 @@ fn moved(n: u16, was: bool, is: bool) -> u16
     (n as usize + i - w) as u16
 }
 
-pub struct Counts {
-    pub used: u16,
-    pub opened: u16,
-}
-
-// The counts with a record in a slot.
-fn counts_with(t: &[u8], k: usize, p: Peer) -> Counts
-    requires { ⌜ Ready (now t) k ⌝ }
-    ensures { λ r. ⌜ (r .used ≡ usedCount (stored (decodeTable (now (t .entry))) k p)) × (r .opened ≡ openCount (stored (decodeTable (now (t .entry))) k p)) ⌝ }
+// The counts with the record that a slot has now, where another one's share was counted before.
+fn counts_after(t: &[u8], k: usize, was: Standing) -> Counts
+    requires { ⌜ Changed (now t) k was ⌝ }
+    ensures { λ r. ⌜ (r .used ≡ usedCount (decodeTable (now (t .entry)))) × (r .opened ≡ openCount (decodeTable (now (t .entry)))) ⌝ }
 {
     let h = header_of(t);
-    let state = p.run.state;
-    let used = moved(h.used, is_used(t, k), p.used == 1);
-    let opened = moved(h.opened, is_running(t, k), (state == 1) | (state == 2));
+    let used = moved(h.used, was.used, is_used(t, k));
+    let opened = moved(h.opened, was.running, is_running(t, k));
     Counts {
         used: used,
         opened: opened,
     }
 }
 
-// A record goes into a slot, and the counts are made true.
-pub fn place(t: &mut [u8], k: usize, p: Peer)
-    requires { ⌜ Ready (now t) k ⌝ }
-    ensures { λ _. ⌜ now (t .exit) ≡ encodeTable (placed (decodeTable (now (t .entry))) k p) ⌝ }
+// The counts are made true once the record of a slot was changed where it lies.
+pub fn recount(t: &mut [u8], k: usize, was: Standing)
+    requires { ⌜ Changed (now t) k was ⌝ }
+    ensures { λ _. ⌜ now (t .exit) ≡ encodeTable (recounted (decodeTable (now (t .entry)))) ⌝ }
 {
-    let n = counts_with(t, k, p);
-    store_peer(t, k, p);
+    let n = counts_after(t, k, was);
     record::set_counts(t, n.used, n.opened);
 }
 
@@ -431,22 +455,12 @@ fn fresh_header(s: Settings, own: [u8; 6], n: u16) -> Header
     }
 }
 
-fn zero_all(s: &mut [u8])
-    ensures { λ _. ⌜ now (s .exit) ≡ replicate (length (now (s .entry))) 0 ⌝ }
-{
-    let mut i = 0;
-    while i < s.len() {
-        s[i] = 0;
-        i += 1;
-    }
-}
-
 // A header, and zeros for all the slots.
 fn fill(t: &mut [u8], h: Header)
     requires { ⌜ 32 ≤ length (now t) ⌝ }
     ensures { λ _. ⌜ now (t .exit) ≡ encodeHeader h ++ replicate (length (now (t .entry)) - 32) 0 ⌝ }
 {
-    zero_all(&mut t[HEADER..]);
+    fields::clear(&mut t[HEADER..]);
     record::store_header(&mut t[0..HEADER], h);
 }
 

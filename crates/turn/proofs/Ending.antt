@@ -1,31 +1,29 @@
 -- How a call about an address ends: refused, with every octet as it was, or with the step's record at its address and nothing else changed.
 use mathlib.Core.Path.{_≡_, refl, sym, ap, _∙_, subst}
 use mathlib.Core.Logic.{_⊎_, inl, inr}
-use mathlib.Core.Bool.{Bool, true, false, not, _&&_}
+use mathlib.Core.Bool.{Bool, true, false}
 use mathlib.Core.List.{List}
-use Prim.Native.Nat.{ℕ, zero, suc, _≤_, _<_}
+use Prim.Native.Nat.{ℕ, zero, suc, _<_}
 use native.Mathlib.Omega.{arith}
 use native.Mathlib.Decide.{ℕ-discrete}
 use lib.ListN.{length}
 use lib.Dec.{eqb}
-use borrow.Author.Tests.{eqb-true, eq-eqb, ne-eqb}
+use borrow.Author.Tests.{eqb-true, eq-eqb}
 use Rattle.octets.specs.Octets.{Bytes, sameAddress}
 use Rattle.octets.specs.Scan.{firstBelow, if_then_else_}
-use Rattle.octets.proofs.Scan.{clash, cases, first-ext}
+use Rattle.octets.proofs.Scan.{clash, first-ext}
 use Rattle.octets.specs.declared.Found.{Found}
 use Rattle.octets.specs.declared.Found.the-variants as found
-use Rattle.groups.specs.Groups.{width}
 use Rattle.record.specs.declared.Peer.{Peer}
-use Rattle.record.specs.Layout.{groupsOf, counted, noPeer}
-use Rattle.record.proofs.Laws.{FitPeer, shape-peer}
-use Rattle.form.specs.Form.{peerOk}
+use Rattle.record.specs.Layout.{counted, noPeer}
+use Rattle.record.proofs.Laws.{shape-peer}
 use Rattle.form.proofs.Laws.{peer-unused, peer-in-use}
 use Rattle.acts.specs.declared.Step.{Step}
-use Rattle.table.specs.Table.{Table, entry, sound, encodeTable, decodeTable, placed, recounted, stored, slot, slots, inUse, holds, look, lookBy, finds, freeSlot, usedCount, openCount}
-use Rattle.table.specs.declared.Entry.the-variants.{Absent, At}
+use Rattle.table.specs.Table.{Table, sound, decodeTable, placed, recounted, stored, slot, slots, inUse, holds, look, lookBy, finds, freeSlot}
+use Rattle.table.specs.declared.Entry.the-variants.{At}
 use Rattle.table.proofs.Laws.{entry-absent, sound-whole, peers-held}
 use Rattle.table.proofs.Fit.{bytes-placed}
-use Rattle.table.proofs.Kept.{placed-same, placed-other, placed-decoded}
+use Rattle.table.proofs.Kept.{placed-same, placed-other}
 use Rattle.turn.specs.declared.Seat.{Seat}
 use Rattle.turn.specs.declared.Seat.the-variants as seat-is
 use Rattle.turn.specs.Turn.{seat, seatFree, finishBy, finishes, Left, turned, refuse, said}
@@ -33,8 +31,8 @@ use Rattle.turn.specs.declared.Refusal.{Refusal}
 use Rattle.turn.specs.declared.Refusal.the-variants as why
 use Rattle.turn.specs.declared.Turn.{Turn}
 use Rattle.turn.specs.declared.Turn.the-variants.{Refused, Go}
-use Rattle.turn.proofs.Laws.{Entered, old, new, Sits, entered-seated, sits, sits-below}
-use Rattle.turn.proofs.Theorems.{Good, others-free, placed-here, leaves, sound-here, look-here, look-elsewhere}
+use Rattle.turn.proofs.Laws.{Entered, old, new, entered-seated, sits, sits-below}
+use Rattle.turn.proofs.Theorems.{Good, others-free, leaves, sound-here, look-here, look-elsewhere}
 
 -- a step was made: its answer, and the table that it leaves
 pub record Finished (t a : List ℕ) (s : Step) (l : Left) : Type 0 where

@@ -4,19 +4,27 @@ use mathlib.Core.Bool.{Bool, true, false}
 use mathlib.Core.List.{List}
 use Prim.Native.Nat.{ℕ, _<_}
 use native.Mathlib.Omega.{arith}
+use native.Mathlib.Decide.{ℕ-discrete}
 use lib.Dec.{eqb}
-use borrow.Author.Tests.{eq-eqb, ne-eqb}
+use lib.ListN.{length}
+use borrow.Author.Tests.{eq-eqb, ne-eqb, eqb-true}
+use Rattle.octets.specs.Octets.{Bytes}
 use Rattle.octets.specs.Scan.{if_then_else_}
 use Rattle.octets.specs.declared.Found.{Found}
 use Rattle.octets.specs.declared.Found.the-variants as found
 use Rattle.record.specs.declared.Peer.{Peer}
 use Rattle.record.specs.Layout.{noPeer}
+use Rattle.record.proofs.Laws.{shape-peer}
+use Rattle.form.proofs.Laws.{peer-unused}
 use Rattle.acts.specs.declared.Step.{Step}
-use Rattle.table.specs.Table.{Table, entry, sound, encodeTable, decodeTable, placed, slot, slots, lookBy, freeSlot, Ready}
-use Rattle.table.specs.declared.Entry.{Entry}
-use Rattle.table.specs.declared.Entry.the-variants.{Unsound, Unusable, Absent, At}
-use Rattle.table.proofs.Laws.{entry-at, entry-absent, found-below, free-below-law, ready}
-use Rattle.turn.specs.Turn.{Left, Leaves, turned, refused, said, seat, seatFree, finishBy, finishes, Seated}
+use Rattle.acts.specs.declared.Said.{Said}
+use Rattle.acts.specs.Said.{saying}
+use Rattle.table.specs.Table.{Table, entry, sound, encodeTable, decodeTable, placed, stored, recounted, slot, slots, freeSlot, Ready}
+use Rattle.table.specs.declared.Entry.the-variants.{Absent, At}
+use Rattle.table.proofs.Laws.{entry-at, entry-absent, found-below, free-below-law, sound-whole, sound-peer, peers-held, ready}
+use Rattle.table.proofs.Fit.{fit-decoded, fit-slot}
+use Rattle.table.proofs.Kept.{placed-again}
+use Rattle.turn.specs.Turn.{Leaves, turned, refused, said, answered, seat, seatFree, seating, finishBy, finishes, Seated}
 use Rattle.turn.specs.declared.Refusal.{Refusal}
 use Rattle.turn.specs.declared.Refusal.the-variants as why
 use Rattle.turn.specs.declared.Turn.{Turn}
@@ -27,22 +35,14 @@ use Rattle.turn.specs.declared.Seat.the-variants as seat-is
 
 -- ---- where a record goes
 
-module _ (T : Table) (f : Found) (used : ℕ) where
-  pub seat-old : (k : ℕ) → f ≡ found.At k → seat-is.At k ≡ seat T f used
+module _ (T : Table) (used : ℕ) where
+  seat-nowhere : used ≡ 0 → seat T found.Nothing used ≡ seat-is.Nowhere
   unfolding seat
-  seat-old k e = rw e
+  seat-nowhere u = rw (eq-eqb used 0 u)
 
-  pub seat-nowhere : f ≡ found.Nothing → used ≡ 0 → seat-is.Nowhere ≡ seat T f used
+  seat-new : (used ≡ 0 → ⊥) → seat T found.Nothing used ≡ seatFree (freeSlot T)
   unfolding seat
-  seat-nowhere e u = rw (e, eq-eqb used 0 u)
-
-  pub seat-new : (g : Found) (k : ℕ) → f ≡ found.Nothing → (used ≡ 0 → ⊥) → g ≡ freeSlot T → g ≡ found.At k → seat-is.At k ≡ seat T f used
-  unfolding seat
-  seat-new g k e u p q = let z : freeSlot T ≡ found.At k = sym p ∙ q in rw (e, ne-eqb used 0 u, z)
-
-  pub seat-full : (g : Found) → f ≡ found.Nothing → (used ≡ 0 → ⊥) → g ≡ freeSlot T → g ≡ found.Nothing → seat-is.Full ≡ seat T f used
-  unfolding seat
-  seat-full g e u p q = let z : freeSlot T ≡ found.Nothing = sym p ∙ q in rw (e, ne-eqb used 0 u, z)
+  seat-new u = rw (ne-eqb used 0 u)
 
 seat-free-at : (g : Found) (k : ℕ) → seatFree g ≡ seat-is.At k → g ≡ found.At k
 seat-free-at (found.At j) k e = let z : j ≡ k = cc in ap found.At z
@@ -66,27 +66,81 @@ pub sits-below : (t : List ℕ) (f : Found) (k : ℕ) → Seated t f → Sits (d
 sits-below t f k S there = S .below k refl
 sits-below t f k S (free e) = free-below-law (decodeTable t) k e .0
 
-pub seat-ready : (t : List ℕ) (f : Found) (used k : ℕ) (e : Seat) → Seated t f → e ≡ seat (decodeTable t) f used → e ≡ seat-is.At k → Ready t k
-seat-ready t f used k e S p q = ready t (S .whole) k (sits-below t f k S (sits (decodeTable t) f used k (sym p ∙ q)))
+-- ---- where a record is worked on
+
+-- what `seat_of` shows
+pub seating-old : (T : Table) (f : Found) (k : ℕ) → f ≡ found.At k → found.At k ≡ seating T f
+unfolding seating
+seating-old T f k e = rw e
+
+pub seating-new : (T : Table) (f g : Found) → f ≡ found.Nothing → g ≡ freeSlot T → g ≡ seating T f
+unfolding seating
+seating-new T f g e p = rw e p
+
+seating-sits : (T : Table) (f : Found) (k : ℕ) → seating T f ≡ found.At k → Sits T k f
+unfolding seating
+seating-sits T (found.At j) k e = let z : j ≡ k = cc in subst (λ (x : ℕ). Sits T k (found.At x)) (sym z) there
+seating-sits T found.Nothing k e = free e
+
+pub seated-ready : (t : List ℕ) (f : Found) (k : ℕ) → Seated t f → seating (decodeTable t) f ≡ found.At k → Ready t k
+seated-ready t f k S e = ready t (S .whole) k (sits-below t f k S (seating-sits (decodeTable t) f k e))
+
+-- a free slot of a sound table has the empty record
+pub free-record : (t : List ℕ) (k : ℕ) → Bytes t → sound t ≡ true → freeSlot (decodeTable t) ≡ found.At k → slot (decodeTable t) k ≡ noPeer
+free-record t k b s e =
+    let w = free-below-law (decodeTable t) k e in
+    let l : k < length (decodeTable t .peers) = omega (arith, peers-held t (slots (decodeTable t)) (sound-whole t s), w .0) in
+    peer-unused _ _ _ (shape-peer (fit-slot (decodeTable t) k (fit-decoded t _ b (sound-whole t s)) l)) (sound-peer t s k (w .0)) (eqb-true _ _ (w .1))
 
 -- ---- the end of every call
 
-module _ (t : List ℕ) (f : Found) (s : Step) (a : List ℕ) (e : Seat) (p : e ≡ seat (decodeTable t) f (s .peer .used)) (r : Answer) where
-  finish-by : (g : Seat) (u : List ℕ) → e ≡ g → Leaves r u (finishBy g t s a) → Leaves r u (finishes t f s a)
+answered-said : (s : Step) (x : Said) (a : List ℕ) (r : Answer) → x ≡ saying s → r ≡ answered x a → r ≡ said s a
+unfolding said
+answered-said s x a r e q = q ∙ ap (λ (y : Said). answered y a) e
+
+module _ (t a : List ℕ) (s : Step) (r : Answer) where
+  finish-by : (f : Found) (g : Seat) (v : List ℕ) → seat (decodeTable t) f (s .peer .used) ≡ g → Leaves r v (finishBy g t s a) → Leaves r v (finishes t f s a)
   unfolding finishes
-  finish-by g u q l = subst (λ (x : Seat). Leaves r u (finishBy x t s a)) (sym q ∙ p) l
+  finish-by f g v q l = subst (λ (x : Seat). Leaves r v (finishBy x t s a)) (sym q) l
 
-  pub finish-at : (k : ℕ) (u : List ℕ) → e ≡ seat-is.At k → u ≡ encodeTable (placed (decodeTable t) k (s .peer)) → r ≡ said s a → Leaves r u (finishes t f s a)
+  finish-seat : (f : Found) (k : ℕ) (v : List ℕ) → seat (decodeTable t) f (s .peer .used) ≡ seat-is.At k → r ≡ said s a → v ≡ encodeTable (placed (decodeTable t) k (s .peer))
+      → Leaves r v (finishes t f s a)
   unfolding finishBy
-  finish-at k u q w z = finish-by (seat-is.At k) u q (record { answer = z; table = w })
+  finish-seat f k v q z w = finish-by f (seat-is.At k) v q (record { answer = z; table = w })
 
-  pub finish-nowhere : e ≡ seat-is.Nowhere → r ≡ said s a → Leaves r t (finishes t f s a)
+  finish-nowhere : (v : List ℕ) → s .peer .used ≡ 0 → r ≡ said s a → v ≡ t → Leaves r v (finishes t found.Nothing s a)
   unfolding finishBy
-  finish-nowhere q z = finish-by seat-is.Nowhere t q (record { answer = z; table = refl })
+  finish-nowhere v u z w = finish-by found.Nothing seat-is.Nowhere v (seat-nowhere _ _ u) (record { answer = z; table = w })
 
-  pub finish-full : e ≡ seat-is.Full → r ≡ refused why.Full → Leaves r t (finishes t f s a)
-  unfolding finishBy
-  finish-full q z = finish-by seat-is.Full t q (record { answer = z; table = refl })
+  -- no slot is free: a new record is refused, and one that is not in use needs none
+  pub full-refused : seating (decodeTable t) found.Nothing ≡ found.Nothing → (s .peer .used ≡ 0 → ⊥) → r ≡ refused why.Full → Leaves r t (finishes t found.Nothing s a)
+  unfolding finishBy seating
+  full-refused e u z = finish-by found.Nothing seat-is.Full t (seat-new _ _ u ∙ ap seatFree e) (record { answer = z; table = refl })
+
+pub full-said : (t a : List ℕ) (s : Step) (x : Said) (r : Answer) → s .peer .used ≡ 0 → x ≡ saying s → r ≡ answered x a → Leaves r t (finishes t found.Nothing s a)
+full-said t a s x r u e q = finish-nowhere t a s r t u (answered-said s x a r e q) refl
+
+-- THE RECORD CHANGED WHERE IT LIES, and the counts made true, are the step finished: a free slot that stays free has the record that it had
+pub finish-law : (t u v a : List ℕ) (f : Found) (k : ℕ) (s : Step) (x : Said) (r : Answer) → Bytes t → Seated t f → seating (decodeTable t) f ≡ found.At k
+    → (f ≡ found.Nothing → s .peer .used ≡ 0 → s .peer ≡ noPeer) → decodeTable u ≡ stored (decodeTable t) k (s .peer) → x ≡ saying s
+    → r ≡ answered x a → v ≡ encodeTable (recounted (decodeTable u)) → Leaves r v (finishes t f s a)
+unfolding placed seat
+finish-law t u v a f k s x r b S e n d ex er ev = go f (seating-sits (decodeTable t) f k e) n
+  where
+    z : r ≡ said s a
+    z = answered-said s x a r ex er
+
+    w : v ≡ encodeTable (placed (decodeTable t) k (s .peer))
+    w = ev ∙ ap (λ (X : Table). encodeTable (recounted X)) d
+
+    go : (g : Found) → Sits (decodeTable t) k g → (g ≡ found.Nothing → s .peer .used ≡ 0 → s .peer ≡ noPeer) → Leaves r v (finishes t g s a)
+    go g there m = finish-seat t a s r (found.At k) k v refl z w
+    go g (free q) m = elim (ℕ-discrete (s .peer .used) 0) [
+      | yes u₀ ↦
+          let o : s .peer ≡ slot (decodeTable t) k = m refl u₀ ∙ sym (free-record t k b (S .whole) q) in
+          finish-nowhere t a s r v u₀ z (w ∙ ap (λ (p : Peer). encodeTable (placed (decodeTable t) k p)) o ∙ placed-again t k b (S .whole))
+      | no u₁ ↦ finish-seat t a s r found.Nothing k v (seat-new _ _ u₁ ∙ ap seatFree q) z w
+    ]
 
 -- ---- every call: a refusal, or a step finished
 
@@ -120,12 +174,3 @@ pub data Entered (t a : List ℕ) : Found → Type 0 where
 pub entered-seated : (t a : List ℕ) (f : Found) → Entered t a f → Seated t f
 entered-seated t a f (old {k} e) = seated-at t a k e
 entered-seated t a f (new e) = seated-absent t a e
-
--- ---- what `load_of` shows
-pub load-old : (T : Table) (f : Found) (k : ℕ) (p : Peer) → f ≡ found.At k → p ≡ slot T k → p ≡ lookBy T f
-unfolding lookBy
-load-old T f k p e q = rw e q
-
-pub load-new : (T : Table) (f : Found) (p : Peer) → f ≡ found.Nothing → p ≡ noPeer → p ≡ lookBy T f
-unfolding lookBy
-load-new T f p e q = rw e q

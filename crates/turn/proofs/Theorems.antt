@@ -1,36 +1,32 @@
 -- What holds of every call about an address: a refusal leaves every octet, a sound table stays sound with true counts, every other address keeps its record.
 use mathlib.Core.Path.{_≡_, refl, sym, ap, _∙_, subst}
-use mathlib.Core.Bool.{Bool, true, false, not, _&&_}
+use mathlib.Core.Bool.{Bool, true, false, _&&_}
 use mathlib.Core.List.{List}
-use Prim.Native.Nat.{ℕ, _≤_, _<_}
+use Prim.Native.Nat.{ℕ, _<_}
 use native.Mathlib.Omega.{arith}
 use lib.ListN.{length}
-use lib.Dec.{eqb}
-use borrow.Author.Tests.{eqb-true, eq-eqb}
+use borrow.Author.Tests.{eqb-true}
 use Rattle.octets.specs.Octets.{Bytes, sameAddress}
-use Rattle.octets.proofs.Scan.{clash, and-left, and-right}
+use Rattle.octets.proofs.Scan.{and-left, and-right}
 use Rattle.octets.proofs.Tests.{same-address, same-address-refl}
 use Rattle.octets.specs.declared.Found.{Found}
-use Rattle.octets.specs.declared.Found.the-variants as found
 use Rattle.groups.specs.Groups.{width}
 use Rattle.record.specs.declared.Peer.{Peer}
 use Rattle.record.specs.Layout.{groupsOf}
 use Rattle.record.proofs.Laws.{FitPeer}
 use Rattle.form.specs.Form.{peerOk}
 use Rattle.acts.specs.declared.Step.{Step}
-use Rattle.table.specs.Table.{Table, entry, sound, encodeTable, decodeTable, placed, slot, slots, inUse, holds, look, lookBy, freeSlot, usedCount, openCount}
-use Rattle.table.specs.declared.Entry.{Entry}
-use Rattle.table.specs.declared.Entry.the-variants.{Unsound, Unusable, Absent, At}
+use Rattle.table.specs.Table.{Table, entry, sound, encodeTable, decodeTable, placed, slot, slots, inUse, holds, look, usedCount, openCount}
+use Rattle.table.specs.declared.Entry.the-variants.{At}
 use Rattle.table.proofs.Laws.{entry-at, entry-absent, found-below, sound-whole, peers-held, none-holds, free-below-law}
 use Rattle.table.proofs.Fit.{fit-slot, fit-decoded}
 use Rattle.table.proofs.Kept.{Alone, sound-form, placed-sound, placed-decoded, placed-used, placed-open, look-other, look-same}
 use Rattle.turn.specs.declared.Seat.{Seat}
 use Rattle.turn.specs.declared.Seat.the-variants as seat-is
-use Rattle.turn.specs.Turn.{seat, finishBy, finishes, Seated, Left, turned, refuse, refused, said}
+use Rattle.turn.specs.Turn.{seat, finishBy, finishes, turned, refused, said}
 use Rattle.turn.specs.declared.Refusal.{Refusal}
 use Rattle.turn.specs.declared.Turn.{Turn}
 use Rattle.turn.specs.declared.Turn.the-variants.{Refused, Go}
-use Rattle.turn.specs.declared.Outcome.{Outcome}
 use Rattle.turn.specs.declared.Outcome.the-variants as outcome
 use Rattle.turn.proofs.Laws.{Entered, old, new, Sits, there, free, entered-seated, sits, sits-below}
 

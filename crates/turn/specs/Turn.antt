@@ -1,6 +1,6 @@
 -- What all calls share: the numbered refusals, the answer, where a record goes, and the end of every call.
 use mathlib.Core.Path.{_≡_}
-use mathlib.Core.Bool.{Bool, true, false}
+use mathlib.Core.Bool.{true}
 use mathlib.Core.List.{List}
 use Prim.Native.Nat.{ℕ, _<_}
 use lib.Dec.{eqb}
@@ -8,10 +8,10 @@ use lib.ListN.{replicate}
 use Rattle.octets.specs.Scan.{if_then_else_}
 use Rattle.octets.specs.declared.Found.{Found}
 use Rattle.octets.specs.declared.Found.the-variants as found
-use Rattle.record.specs.declared.Peer.{Peer}
 use Rattle.acts.specs.declared.Event.the-variants as event
 use Rattle.acts.specs.declared.Frames.the-variants as frames
 use Rattle.acts.specs.declared.Step.{Step}
+use Rattle.acts.specs.declared.Said.{Said}
 use Rattle.table.specs.Table.{Table, decodeTable, encodeTable, slots, freeSlot, sound, placed}
 use Rattle.turn.specs.declared.Refusal.{Refusal}
 use Rattle.turn.specs.declared.Refusal.the-variants as why
@@ -55,6 +55,10 @@ noneDue = record { outcome = outcome.NoneDue; event = event.None; frames = frame
 unfoldable pub said : Step → List ℕ → Answer
 said s address = record { outcome = outcome.Done; event = s .event; frames = s .frames; fresh = s .fresh; address = address }
 
+-- the same, of what a step says
+abbrev pub answered : Said → List ℕ → Answer
+answered s address = record { outcome = outcome.Done; event = s .event; frames = s .frames; fresh = s .fresh; address = address }
+
 -- "Set up and kill answer event 0, no frames, group 0 and the address given."
 unfoldable pub quiet : List ℕ → Answer
 quiet address = record { outcome = outcome.Done; event = event.None; frames = frames.None; fresh = 0; address = address }
@@ -84,6 +88,11 @@ unfoldable pub seat : Table → Found → ℕ → Seat
 seat T (found.At k) used = seat-is.At k
 seat T found.Nothing used = if eqb used 0 then seat-is.Nowhere else seatFree (freeSlot T)
 
+-- the slot where a record is worked on: that of its address, or the one that a new peer takes, if one is free
+unfoldable pub seating : Table → Found → Found
+seating T (found.At k) = found.At k
+seating T found.Nothing = freeSlot T
+
 -- the end of every call: the step's record is stored and the counts are made true; "new record needed, no free slot": 9
 unfoldable pub finishBy : Seat → List ℕ → Step → List ℕ → Left
 finishBy (seat-is.At k) t s address = record { answer = said s address; table = encodeTable (placed (decodeTable t) k (s .peer)) }
@@ -98,7 +107,7 @@ unfoldable pub turned : Turn → (Found → Step) → List ℕ → List ℕ → 
 turned (turn.Refused c) g t address = refuse t c
 turned (turn.Go f) g t address = finishes t f (g f) address
 
--- what `finish` asks: a sound table, and a slot of it
+-- what a step asks: a sound table, and a slot of it
 pub record Seated (t : List ℕ) (f : Found) : Type 0 where
   pub whole : sound t ≡ true
   pub below : (k : ℕ) → f ≡ found.At k → k < slots (decodeTable t)

@@ -1,13 +1,13 @@
 // What all calls share: the numbered refusals, the answer, where a record goes, and the end of every call.
 ghost use mathlib.Core.Path.{_≡_};
 ghost use mathlib.Core.Bool.{true};
-ghost use Rattle.table.specs.Table.{decodeTable, sound, lookBy};
-ghost use Rattle.turn.specs.Turn.{number, returned, refused, noneDue, said, quiet, Leaves, seat, finishes, Seated};
+ghost use Rattle.table.specs.Table.{decodeTable, encodeTable, recounted, sound, Changed};
+ghost use Rattle.turn.specs.Turn.{number, returned, refused, noneDue, answered, quiet, seating};
 use acts::Event;
 use acts::Frames;
-use acts::Step;
+use acts::Said;
 use octets::Found;
-use record::Peer;
+use table::Standing;
 
 // The causes of a refusal, in the order of their numbers.
 pub enum Refusal {
@@ -107,8 +107,8 @@ pub fn none_due() -> Answer
     }
 }
 
-pub fn say(s: Step, address: [u8; 6]) -> Answer
-    ensures { λ r. ⌜ r ≡ said s address ⌝ }
+pub fn say(s: Said, address: [u8; 6]) -> Answer
+    ensures { λ r. ⌜ r ≡ answered s address ⌝ }
 {
     let event = s.event;
     let frames = s.frames;
@@ -133,47 +133,22 @@ pub fn say_nothing(address: [u8; 6]) -> Answer
     }
 }
 
-fn seat_of(t: &[u8], f: Found, used: u8) -> Seat
+// The slot where a call's record is or would be: that of its address, or the free one nearest the end.
+pub fn seat_of(t: &[u8], f: Found) -> Found
     requires { ⌜ sound (now t) ≡ true ⌝ }
-    ensures { λ r. ⌜ r ≡ seat (decodeTable (now (t .entry))) f used ⌝ }
+    ensures { λ r. ⌜ r ≡ seating (decodeTable (now (t .entry))) f ⌝ }
 {
     match f {
-        Found::At(k) => Seat::At(k),
-        Found::Nothing => {
-            if used == 0 {
-                return Seat::Nowhere;
-            }
-            match table::free_slot(t) {
-                Found::At(k) => Seat::At(k),
-                Found::Nothing => Seat::Full,
-            }
-        }
+        Found::At(k) => Found::At(k),
+        Found::Nothing => table::free_slot(t),
     }
 }
 
-// The end of every call: the step's record is stored and counted; cause 9.
-pub fn finish(t: &mut [u8], f: Found, s: Step, address: [u8; 6]) -> Answer
-    requires { ⌜ Seated (now t) f ⌝ }
-    ensures { λ r. ⌜ Leaves r (now (t .exit)) (finishes (now (t .entry)) f s address) ⌝ }
+// The end of a call that changed the record of a slot: the counts are made true.
+pub fn finish_at(t: &mut [u8], k: usize, was: Standing, s: Said, address: [u8; 6]) -> Answer
+    requires { ⌜ Changed (now t) k was ⌝ }
+    ensures { λ r. ⌜ (r ≡ answered s address) × (now (t .exit) ≡ encodeTable (recounted (decodeTable (now (t .entry))))) ⌝ }
 {
-    let p = s.peer;
-    match seat_of(t, f, p.used) {
-        Seat::At(k) => {
-            table::place(t, k, p);
-            say(s, address)
-        }
-        Seat::Nowhere => say(s, address),
-        Seat::Full => refuse_with(Refusal::Full),
-    }
-}
-
-// The record that a call is about; the free one where the address has none.
-pub fn load_of(t: &[u8], f: Found) -> Peer
-    requires { ⌜ Seated (now t) f ⌝ }
-    ensures { λ r. ⌜ r ≡ lookBy (decodeTable (now (t .entry))) f ⌝ }
-{
-    match f {
-        Found::At(k) => table::load_peer(t, k),
-        Found::Nothing => record::no_peer(),
-    }
+    table::recount(t, k, was);
+    say(s, address)
 }

@@ -24,14 +24,14 @@ commits-ok-requires c κs = search needs
 returns : tie.Need-returns
 returns c = start-stock _ _ _ _ _ (ap groupsOf (c .before .before .before .before .before .header-of .ensures)) (c .before .commits-ok .ensures) (c .if1 .taken)
 
-load-of-requires : tie.Need-load-of-requires
-load-of-requires c κs = search needs
+state-of-requires : tie.Need-state-of-requires
+state-of-requires c κs = search needs
 
 returns-2 : tie.Need-returns-2
-returns-2 c = start-running _ _ _ _ _ (ap groupsOf (c .before .before .before .before .before .before .before .before .before .header-of .ensures)) (c .before .before .before .before .before .commits-ok .ensures) (c .before .before .before .load-of .result) (c .before .before .before .before .if1 .left) (c .before .before .before .load-of .ensures) (c .if2 .taken)
+returns-2 c = start-running _ _ _ _ _ (ap groupsOf (c .before .before .before .before .before .before .before .header-of .ensures)) (c .before .before .before .commits-ok .ensures) _ (c .before .before .if1 .left) (c .before .state-of .ensures) (c .if2 .taken)
 
 returns-3 : tie.Need-returns-3
-returns-3 c = start-go _ _ _ _ _ (ap groupsOf (c .before .before .before .before .before .before .before .before .before .header-of .ensures)) (c .before .before .before .before .before .commits-ok .ensures) (c .before .before .before .load-of .result) (c .before .before .before .before .if1 .left) (c .before .before .before .load-of .ensures) (c .if2 .left)
+returns-3 c = start-go _ _ _ _ _ (ap groupsOf (c .before .before .before .before .before .before .before .header-of .ensures)) (c .before .before .before .commits-ok .ensures) _ (c .before .before .if1 .left) (c .before .state-of .ensures) (c .if2 .left)
 
 pub admit-start-spec : {M : Type 1} → statement M
 admit-start-spec =
@@ -43,6 +43,6 @@ admit-start-spec =
     slice-aggregate-commits-ok
     commits-ok-requires
     returns
-    load-of-requires
+    state-of-requires
     returns-2
     returns-3)

@@ -1,6 +1,6 @@
 use mathlib.Core.Path.{sym, _∙_}
 use borrow.Author.Tests.{not-false}
-use Rattle.engine.proofs.Laws.{expire-unsound, expire-none, expire-fits, expire-seated, expire-at, slot-range}
+use Rattle.engine.proofs.Laws.{expire-unsound, expire-none, expire-seated, expire-at}
 use borrow.Author.Needs.{needs}
 use Rattle.engine.proofs.expire.Statement.{statement}
 use Rattle.engine.proofs.expire.Tie as tie
@@ -29,14 +29,8 @@ none-due-requires c κs = search needs
 enum-known-k : tie.Need-enum-known-k
 enum-known-k c = search needs
 
-load-peer-requires : tie.Need-load-peer-requires
-load-peer-requires c κs = expire-fits _ _ _ (c .before .before .before .before .before .before .before .is-sound .ensures) (c .before .before .before .before .before .before .if1 .left) _ (c .before .before .before .before .due-slot .ensures) _ (c .before .before .k .given .1)
-
-on-expired-requires : tie.Need-on-expired-requires
-on-expired-requires c κs = slot-range (c .before .before .before .before .before .before .before .before .before .before .before .args .t .now) _ (c .load-peer .result) (λ i. c .before .before .before .before .before .before .before .before .before .before .slice-known .given i .fits) (expire-seated _ _ _ (c .before .before .before .before .before .before .before .before .is-sound .ensures) (c .before .before .before .before .before .before .before .if1 .left) _ (c .before .before .before .before .before .due-slot .ensures) _ (c .before .before .before .k .given .1)) (c .load-peer .ensures)
-
-finish-requires : tie.Need-finish-requires
-finish-requires c κs = expire-seated _ _ _ (c .before .before .before .before .before .before .before .before .before .before .before .is-sound .ensures) (c .before .before .before .before .before .before .before .before .before .before .if1 .left) _ (c .before .before .before .before .before .before .before .before .due-slot .ensures) _ (c .before .before .before .before .before .before .k .given .1)
+serve-requires : tie.Need-serve-requires
+serve-requires c κs = expire-seated _ _ _ (c .before .before .before .before .before .before .before .is-sound .ensures) (c .before .before .before .before .before .before .if1 .left) _ (c .before .before .before .before .due-slot .ensures) _ (c .before .before .k .given .1)
 
 same-length-2 : tie.Need-same-length-2
 same-length-2 c = search needs
@@ -48,7 +42,7 @@ same-length-3 : tie.Need-same-length-3
 same-length-3 c = search needs
 
 returns-3 : tie.Need-returns-3
-returns-3 c = expire-at _ _ _ (c .before .before .before .before .before .before .before .before .before .before .before .before .before .before .is-sound .ensures) (c .before .before .before .before .before .before .before .before .before .before .before .before .before .if1 .left) _ (c .before .before .before .before .before .before .before .before .before .before .before .due-slot .ensures) _ (c .before .before .before .before .before .before .load-peer .result) (c .before .before .before .before .before .on-expired .result) _ _ (c .before .before .before .before .before .before .before .before .before .k .given .1) (c .before .before .before .before .before .before .load-peer .ensures) (c .before .before .before .before .before .on-expired .ensures) (c .before .before .finish .ensures)
+returns-3 c = expire-at _ _ _ (c .before .before .before .before .before .before .before .before .before .before .is-sound .ensures) (c .before .before .before .before .before .before .before .before .before .if1 .left) _ (c .before .before .before .before .before .before .before .due-slot .ensures) _ _ _ (c .before .before .before .before .before .k .given .1) (c .before .before .serve .ensures)
 
 pub expire-spec : {M : Type 1} → statement M
 expire-spec =
@@ -62,9 +56,7 @@ expire-spec =
     enum-told
     none-due-requires
     enum-known-k
-    load-peer-requires
-    on-expired-requires
-    finish-requires
+    serve-requires
     same-length-2
     returns-2
     same-length-3

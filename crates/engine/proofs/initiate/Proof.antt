@@ -1,5 +1,6 @@
+use mathlib.Core.Path.{refl}
 use Rattle.engine.specs.Calls.{initiates}
-use Rattle.turn.proofs.Laws.{turned-go, turned-refused}
+use Rattle.turn.proofs.Laws.{turned-refused, turned-go}
 use Rattle.engine.proofs.Laws.{start-seated}
 use borrow.Author.Needs.{needs}
 use Rattle.engine.proofs.initiate.Statement.{statement}
@@ -17,11 +18,8 @@ refuse-with-requires c κs = search needs
 enum-known-f : tie.Need-enum-known-f
 enum-known-f c = search needs
 
-start-step-requires : tie.Need-start-step-requires
-start-step-requires c κs = start-seated _ _ _ _ _ (c .before .before .before .before .start-turn .ensures) (c .before .before .f .given .1)
-
-finish-requires : tie.Need-finish-requires
-finish-requires c κs = start-seated _ _ _ _ _ (c .before .before .before .before .before .before .start-turn .ensures) (c .before .before .before .before .f .given .1) .0
+start-requires : tie.Need-start-requires
+start-requires c κs = start-seated _ _ _ _ _ (c .before .before .before .before .start-turn .ensures) (c .before .before .f .given .1)
 
 same-length : tie.Need-same-length
 same-length c = search needs
@@ -35,7 +33,7 @@ same-length-2 c = search needs
 
 returns-2 : tie.Need-returns-2
 unfolding initiates
-returns-2 c = turned-go _ _ _ _ _ (c .before .before .before .before .before .before .before .before .before .start-turn .ensures) _ _ _ _ (c .before .before .before .before .before .before .before .f .given .1) (c .before .before .before .before .start-step .ensures) (c .before .before .finish .ensures)
+returns-2 c = turned-go _ _ _ _ _ (c .before .before .before .before .before .before .before .start-turn .ensures) _ _ _ _ (c .before .before .before .before .before .f .given .1) refl (c .before .before .start .ensures)
 
 pub initiate-spec : {M : Type 1} → statement M
 initiate-spec =
@@ -45,8 +43,7 @@ initiate-spec =
     enum-known-c
     refuse-with-requires
     enum-known-f
-    start-step-requires
-    finish-requires
+    start-requires
     same-length
     returns
     same-length-2

@@ -1,53 +1,84 @@
-use Rattle.engine.specs.Calls.{kills}
-use Rattle.turn.proofs.Laws.{turned-go, turned-refused}
-use Rattle.engine.proofs.Laws.{kill-seated}
+use mathlib.Core.Path.{refl}
+use Rattle.table.specs.declared.Entry.the-variants.{Unsound, Unusable, Absent}
+use Rattle.engine.specs.Calls.{killTurn}
+use Rattle.engine.proofs.Laws.{seated-old}
+use Rattle.engine.proofs.Slots.{kill-refused, kill-freed}
 use borrow.Author.Needs.{needs}
 use Rattle.engine.proofs.kill.Statement.{statement}
 use Rattle.engine.proofs.kill.Tie as tie
 
-kill-turn-requires : tie.Need-kill-turn-requires
-kill-turn-requires c κs = search needs
+enter-requires : tie.Need-enter-requires
+enter-requires c κs = search needs
 
-enum-known-c : tie.Need-enum-known-c
-enum-known-c c = search needs
+enum-told : tie.Need-enum-told
+enum-told c = search needs
 
 refuse-with-requires : tie.Need-refuse-with-requires
 refuse-with-requires c κs = search needs
 
-enum-known-f : tie.Need-enum-known-f
-enum-known-f c = search needs
+enum-told-2 : tie.Need-enum-told-2
+enum-told-2 c = search needs
 
-kill-step-requires : tie.Need-kill-step-requires
-kill-step-requires c κs = search needs
+refuse-with-requires-2 : tie.Need-refuse-with-requires-2
+refuse-with-requires-2 c κs = search needs
 
-finish-requires : tie.Need-finish-requires
-finish-requires c κs = kill-seated _ _ _ _ (c .before .before .before .before .before .kill-turn .ensures) (c .before .before .before .f .given .1)
+enum-told-3 : tie.Need-enum-told-3
+enum-told-3 c = search needs
+
+refuse-with-requires-3 : tie.Need-refuse-with-requires-3
+refuse-with-requires-3 c κs = search needs
+
+enum-known-k : tie.Need-enum-known-k
+enum-known-k c = search needs
+
+free-requires : tie.Need-free-requires
+free-requires c κs = seated-old _ _ _ (c .before .before .before .before .enter .ensures) _ (c .before .before .k .given .1)
 
 same-length : tie.Need-same-length
 same-length c = search needs
 
 returns : tie.Need-returns
-unfolding kills
-returns c = turned-refused _ _ _ _ _ (c .before .before .before .before .kill-turn .ensures) _ _ (c .before .before .c .given .1) (c .refuse-with .ensures)
+unfolding killTurn
+returns c = kill-refused _ _ _ Unsound _ _ (c .before .before .before .enter .ensures) (c .before .enum-told .given .1) refl (c .refuse-with .ensures)
 
 same-length-2 : tie.Need-same-length-2
 same-length-2 c = search needs
 
 returns-2 : tie.Need-returns-2
-unfolding kills
-returns-2 c = turned-go _ _ _ _ _ (c .before .before .before .before .before .before .before .before .kill-turn .ensures) _ _ _ _ (c .before .before .before .before .before .before .f .given .1) (c .before .before .before .before .kill-step .ensures) (c .before .before .finish .ensures)
+unfolding killTurn
+returns-2 c = kill-refused _ _ _ Unusable _ _ (c .before .before .before .enter .ensures) (c .before .enum-told2 .given .1) refl (c .refuse-with2 .ensures)
+
+same-length-3 : tie.Need-same-length-3
+same-length-3 c = search needs
+
+returns-3 : tie.Need-returns-3
+unfolding killTurn
+returns-3 c = kill-refused _ _ _ Absent _ _ (c .before .before .before .enter .ensures) (c .before .enum-told3 .given .1) refl (c .refuse-with3 .ensures)
+
+same-length-4 : tie.Need-same-length-4
+same-length-4 c = search needs
+
+returns-4 : tie.Need-returns-4
+returns-4 c = kill-freed _ _ _ _ _ _ (c .before .before .before .before .before .before .before .enter .ensures) (c .before .before .before .before .before .k .given .1) (c .before .before .free .ensures)
 
 pub kill-spec : {M : Type 1} → statement M
 kill-spec =
     tie.close
     (tie.spec
-    kill-turn-requires
-    enum-known-c
+    enter-requires
+    enum-told
     refuse-with-requires
-    enum-known-f
-    kill-step-requires
-    finish-requires
+    enum-told-2
+    refuse-with-requires-2
+    enum-told-3
+    refuse-with-requires-3
+    enum-known-k
+    free-requires
     same-length
     returns
     same-length-2
-    returns-2)
+    returns-2
+    same-length-3
+    returns-3
+    same-length-4
+    returns-4)

@@ -1,3 +1,4 @@
+use mathlib.Core.Path.{refl}
 use Rattle.engine.specs.Calls.{receives}
 use Rattle.turn.proofs.Laws.{turned-go, turned-refused}
 use Rattle.engine.proofs.Laws.{frame-seated}
@@ -17,11 +18,8 @@ refuse-with-requires c κs = search needs
 enum-known-f : tie.Need-enum-known-f
 enum-known-f c = search needs
 
-frame-step-requires : tie.Need-frame-step-requires
-frame-step-requires c κs = frame-seated _ _ _ _ _ _ _ _ (c .before .before .before .before .frame-turn .ensures) (c .before .before .f .given .1)
-
-finish-requires : tie.Need-finish-requires
-finish-requires c κs = frame-seated _ _ _ _ _ _ _ _ (c .before .before .before .before .before .before .frame-turn .ensures) (c .before .before .before .before .f .given .1) .0
+hear-requires : tie.Need-hear-requires
+hear-requires c κs = frame-seated _ _ _ _ _ _ _ _ (c .before .before .before .before .frame-turn .ensures) (c .before .before .f .given .1)
 
 same-length : tie.Need-same-length
 same-length c = search needs
@@ -35,7 +33,7 @@ same-length-2 c = search needs
 
 returns-2 : tie.Need-returns-2
 unfolding receives
-returns-2 c = turned-go _ _ _ _ _ (c .before .before .before .before .before .before .before .before .before .frame-turn .ensures) _ _ _ _ (c .before .before .before .before .before .before .before .f .given .1) (c .before .before .before .before .frame-step .ensures) (c .before .before .finish .ensures)
+returns-2 c = turned-go _ _ _ _ _ (c .before .before .before .before .before .before .before .frame-turn .ensures) _ _ _ _ (c .before .before .before .before .before .f .given .1) refl (c .before .before .hear .ensures)
 
 pub receive-spec : {M : Type 1} → statement M
 receive-spec =
@@ -45,8 +43,7 @@ receive-spec =
     enum-known-c
     refuse-with-requires
     enum-known-f
-    frame-step-requires
-    finish-requires
+    hear-requires
     same-length
     returns
     same-length-2

@@ -4,17 +4,17 @@ use borrow.Author.Needs.{needs}
 use Rattle.table.proofs.fill.Statement.{statement}
 use Rattle.table.proofs.fill.Tie as tie
 
-sub-zero-all : tie.Need-sub-zero-all
-sub-zero-all c = search needs
+sub-clear : tie.Need-sub-clear
+sub-clear c = search needs
 
-part-zero-all-start : tie.Need-part-zero-all-start
-part-zero-all-start c = search needs
+part-clear-start : tie.Need-part-clear-start
+part-clear-start c = search needs
 
-part-zero-all-end : tie.Need-part-zero-all-end
-part-zero-all-end c = search needs
+part-clear-end : tie.Need-part-clear-end
+part-clear-end c = search needs
 
-zero-all-requires : tie.Need-zero-all-requires
-zero-all-requires c κs = search needs
+clear-requires : tie.Need-clear-requires
+clear-requires c κs = search needs
 
 sub-store-header : tie.Need-sub-store-header
 sub-store-header c = search needs
@@ -37,16 +37,16 @@ fit c = search needs
 returns : tie.Need-returns
 returns c =
     let k = c .before .before .before .before .before .before .before .before .before in
-    fill-law (k .args .t .now) _ _ (k .args .h) (k .pre) (length-six (k .args .h) (fit k)) (c .before .before .before .before .before .before .zero-all .ensures) (c .before .before .store-header .ensures)
+    fill-law (k .args .t .now) _ _ (k .args .h) (k .pre) (length-six (k .args .h) (fit k)) (c .before .before .before .before .before .before .clear .ensures) (c .before .before .store-header .ensures)
 
 pub fill-spec : {M : Type 1} → statement M
 fill-spec =
     tie.close
     (tie.spec
-    sub-zero-all
-    part-zero-all-start
-    part-zero-all-end
-    zero-all-requires
+    sub-clear
+    part-clear-start
+    part-clear-end
+    clear-requires
     sub-store-header
     part-store-header-start
     part-store-header-end

@@ -1,12 +1,11 @@
 use borrow.Author.Needs.{needs}
-use Rattle.table.proofs.Keys.{any-none, any-more, new-law}
+use Rattle.table.proofs.Keys.{any-none, any-more, new-zero, new-law}
 use lib.Dec.{eqb}
-use lib.ListN.{length, getD}
-use Rattle.octets.specs.Scan.{allBelow, countBelow, firstBelow, lastBelow, bit}
-use native.Mathlib.Omega.{arith}
-use Prim.Native.Nat.{ℕ, _≤_, _<_, _-_, _+_}
-use mathlib.Core.Bool.{true, false, not, _&&_}
-use mathlib.Core.Path.{_≡_, refl, sym, ap, _∙_}
+use lib.ListN.{getD}
+use Rattle.octets.specs.Scan.{allBelow}
+use Prim.Native.Nat.{_≤_, _-_}
+use mathlib.Core.Bool.{not}
+use mathlib.Core.Path.{_≡_, refl}
 use Rattle.table.proofs.is_new.Statement.{statement}
 use Rattle.table.proofs.is_new.Tie as tie
 
@@ -21,6 +20,9 @@ mul-x c = search needs
 
 shared-slice-read-x : tie.Need-shared-slice-read-x Inv-loop μ-loop
 shared-slice-read-x c = search needs
+
+returns : tie.Need-returns Inv-loop μ-loop
+returns c = new-zero _ _ _ refl (search needs)
 
 loop-holds : tie.Need-loop-holds Inv-loop μ-loop
 loop-holds c = (search needs, any-none _)
@@ -40,8 +42,8 @@ loop-less c = search needs
 loop-again : tie.Need-loop-again Inv-loop μ-loop
 loop-again c = let l = c .before .before .loop in (search needs, any-more _ (l .j) (l .any) _ (l .inv .1) refl)
 
-returns : tie.Need-returns Inv-loop μ-loop
-returns c = let l = c .before .loop in new-law _ _ (l .j) _ (l .any) refl (l .inv .0) (c .loop-test .left) (l .inv .1)
+returns-2 : tie.Need-returns-2 Inv-loop μ-loop
+returns-2 c = let l = c .before .loop in new-law _ _ (l .j) _ (l .any) refl (search needs) (l .inv .0) (c .loop-test .left) (l .inv .1)
 
 pub is-new-spec : {M : Type 1} → statement M
 is-new-spec =
@@ -51,10 +53,11 @@ is-new-spec =
     μ-loop
     mul-x
     shared-slice-read-x
+    returns
     loop-holds
     mul-any
     shared-slice-read-any
     add-j
     loop-less
     loop-again
-    returns)
+    returns-2)

@@ -1,0 +1,55 @@
+use mathlib.Core.Path.{sym, _∙_}
+use native.Mathlib.Omega.{arith}
+use Rattle.engine.proofs.Slots.{slot-fits, slot-changed, seat-slot, started, start-full}
+use borrow.Author.Needs.{needs}
+use Rattle.engine.proofs.start.Statement.{statement}
+use Rattle.engine.proofs.start.Tie as tie
+
+seat-of-requires : tie.Need-seat-of-requires
+seat-of-requires c κs = search needs
+
+enum-known-k : tie.Need-enum-known-k
+enum-known-k c = search needs
+
+standing-of-requires : tie.Need-standing-of-requires
+standing-of-requires c κs = let k = c .before .before .before .before .before .before .before .before in slot-fits (k .args .t .now) _ (seat-slot (k .args .t .now) _ _ (k .pre .0) (sym (c .before .before .before .before .seat-of .ensures) ∙ c .before .before .k .given .1))
+
+start-at-requires : tie.Need-start-at-requires
+start-at-requires c κs = let k = c .before .before .before .before .before .before .before .before .before .before in let s = seat-slot (k .args .t .now) _ _ (k .pre .0) (sym (c .before .before .before .before .before .before .seat-of .ensures) ∙ c .before .before .before .before .k .given .1) in (s, (slot-fits (k .args .t .now) _ s, k .pre .1))
+
+finish-at-requires : tie.Need-finish-at-requires
+finish-at-requires c κs = let k = c .before .before .before .before .before .before .before .before .before .before .before .before .before .before in slot-changed (k .args .t .now) _ (seat-slot (k .args .t .now) _ _ (k .pre .0) (sym (c .before .before .before .before .before .before .before .before .before .before .seat-of .ensures) ∙ c .before .before .before .before .before .before .before .before .k .given .1)) _ _ _ _ (search needs) (c .before .before .before .start-at .ensures) (c .before .before .before .before .before .standing-of .ensures)
+
+enum-told : tie.Need-enum-told
+enum-told c = search needs
+
+refuse-with-requires : tie.Need-refuse-with-requires
+refuse-with-requires c κs = search needs
+
+same-length : tie.Need-same-length
+same-length c = search needs
+
+returns : tie.Need-returns
+returns c = let k = c .before .before .before .before .before .before .before .before .before .before .before .before .before .before .before .before .before in let e = sym (c .before .before .before .before .before .before .before .before .before .before .before .before .before .seat-of .ensures) ∙ c .before .before .before .before .before .before .before .before .before .before .before .k .given .1 in started (k .args .t .now) (k .args .f) _ (k .pre .0) e _ _ (k .args .address) (k .args .fresh .now) (k .args .time) _ _ (λ i. omega (arith, c .before .before .before .before .before .before .before .before .before .before .before .before .before .before .before .before .slice-known .given i)) (c .before .before .before .before .before .before .start-at .ensures) (c .before .before .finish-at .ensures)
+
+same-length-2 : tie.Need-same-length-2
+same-length-2 c = search needs
+
+returns-2 : tie.Need-returns-2
+returns-2 c = let k = c .before .before .before .before .before .before .before in start-full (k .args .t .now) (k .args .address) (k .args .f) (k .args .time) (k .args .fresh .now) _ _ (c .before .before .before .seat-of .ensures) (c .before .enum-told .given .1) (c .refuse-with .ensures)
+
+pub start-spec : {M : Type 1} → statement M
+start-spec =
+    tie.close
+    (tie.spec
+    seat-of-requires
+    enum-known-k
+    standing-of-requires
+    start-at-requires
+    finish-at-requires
+    enum-told
+    refuse-with-requires
+    same-length
+    returns
+    same-length-2
+    returns-2)

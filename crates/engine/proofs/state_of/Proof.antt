@@ -1,0 +1,23 @@
+use mathlib.Core.Path.{_∙_}
+use Rattle.engine.proofs.Slots.{slot-fits, state-there, state-none}
+use borrow.Author.Needs.{needs}
+use Rattle.engine.proofs.state_of.Statement.{statement}
+use Rattle.engine.proofs.state_of.Tie as tie
+
+enum-known-f : tie.Need-enum-known-f
+enum-known-f c = search needs
+
+state-at-requires : tie.Need-state-at-requires
+state-at-requires c κs = let s = c .before .before .before .before in slot-fits (s .args .t .now) _ (record { whole = s .pre .whole; below = λ j z. s .pre .below j (c .before .f .given .1 ∙ z) })
+
+enum-told : tie.Need-enum-told
+enum-told c = search needs
+
+returns : tie.Need-returns
+returns c = state-there _ _ _ _ (c .before .before .f .given .1) (c .state-at .ensures)
+
+returns-2 : tie.Need-returns-2
+returns-2 c = state-none _ _ (c .enum-told .given .1)
+
+pub state-of-spec : {M : Type 1} → statement M
+state-of-spec = tie.close (tie.spec enum-known-f state-at-requires enum-told returns returns-2)
