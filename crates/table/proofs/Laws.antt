@@ -1,6 +1,7 @@
 -- Laws of the table as a value: what soundness says, what the searches find, a record stored.
 use mathlib.Core.Path.{_≡_, refl, sym, ap, _∙_}
-use mathlib.Core.Bool.{Bool, true, false, not, _&&_}
+use mathlib.Core.Logic.{_⊎_, inl, inr}
+use mathlib.Core.Bool.{Bool, true, false, not, _&&_, _||_}
 use mathlib.Core.List.{List}
 use Prim.Native.Nat.{ℕ, zero, suc, _+_, _-_, _*_, _/_, _≤_, _<_}
 use native.Mathlib.Omega.{arith}
@@ -13,7 +14,7 @@ use Rattle.octets.specs.Octets.{num, sameAddress}
 use Rattle.octets.specs.Scan.{if_then_else_, allBelow, countBelow, firstBelow, lastBelow, bit}
 use Rattle.octets.specs.declared.Found.{Found}
 use Rattle.octets.specs.declared.Found.the-variants.{At, Nothing}
-use Rattle.octets.proofs.Scan.{and-left, and-right, and-both, all-true, first-at, first-nothing, last-at, count-but, count-le, bit-le}
+use Rattle.octets.proofs.Scan.{cases, and-left, and-right, and-both, all-true, all-of, first-at, first-nothing, last-at, count-but, count-le, bit-le}
 use Rattle.record.specs.declared.Peer.{Peer}
 use Rattle.record.specs.declared.Header.{Header}
 use Rattle.record.specs.Layout.{groupsOf}
@@ -129,16 +130,70 @@ module _ (t : List ℕ) (h : Header) (e : h ≡ decodeTable t .header) where
       let g : h .slots ≡ slots (decodeTable t) = ap (λ (g : Header). g .slots) e in
       er ∙ body-sound t l (ap headerOk (sym e) ∙ sym p ∙ not-false ok q) (w ∙ ap (λ (n : ℕ). 32 + size * n) g)
 
--- what `body_ok` shows
-pub body-law : (t own gs : List ℕ) (h : Header) (n : ℕ) (s a c : Bool) → Whole t h n → own ≡ h .own → gs ≡ groupsOf h
-    → s ≡ allBelow (λ k. peerOk own gs (slot (decodeTable t) k)) n → a ≡ allBelow (alone (decodeTable t)) n → c ≡ countsOk (decodeTable t)
-    → (s && (a && c)) ≡ (slotsOk (decodeTable t) && (addressesOk (decodeTable t) && countsOk (decodeTable t)))
-unfolding slotsOk addressesOk
-body-law t own gs h n s a c w eo eg es ea ec =
+-- ---- fewer than two records in use have no address twice
+
+count-part : (f : ℕ → Bool) (n k : ℕ) → k < n → countBelow f k + bit (f k) ≤ countBelow f n
+unfolding countBelow
+count-part f zero k h = absurd (omega arith)
+count-part f (suc n) k h = elim (ℕ-discrete k n) [
+  | yes e ↦ rw e (omega arith)
+  | no d ↦ let w = count-part f n k (omega arith) in omega (arith, w)
+]
+
+one-used : (f : ℕ → Bool) (n j k : ℕ) → j < k → k < n → countBelow f n < 2 → f k ≡ true → f j ≡ false
+one-used f n j k l h c e = go (cases (f j))
+  where
+    go : (f j ≡ true) ⊎ (f j ≡ false) → f j ≡ false
+    go (inr z) = z
+    go (inl z) =
+        let a : bit (f j) ≡ 1 = ap bit z in
+        let b : bit (f k) ≡ 1 = ap bit e in
+        absurd (omega (arith, count-part f n k h, count-part f k j l, a, b, c))
+
+few-alone : (T : Table) → usedCount T < 2 → addressesOk T ≡ true
+unfolding addressesOk alone holds usedCount
+few-alone T c = all-of (alone T) (slots T) (λ k h. go k h (cases (inUse (slot T k))))
+  where
+    go : (k : ℕ) → k < slots T → (inUse (slot T k) ≡ true) ⊎ (inUse (slot T k) ≡ false) → (not (inUse (slot T k)) || allBelow (λ j. not (inUse (slot T j) && sameAddress (slot T j .address) (slot T k .address))) k) ≡ true
+    go k h (inr z) = rw z refl
+    go k h (inl z) = rw z (all-of _ k (λ j l. let y : inUse (slot T j) ≡ false = one-used (λ i. inUse (slot T i)) (slots T) j k l h c z in rw y refl))
+
+-- what `addresses_ok` shows
+pub addresses-few : (T : Table) (used : ℕ) → used < 2 → used ≡ usedCount T → true ≡ addressesOk T
+addresses-few T used l e = sym (few-alone T (omega (arith, l, e)))
+
+pub addresses-all : (T : Table) (n : ℕ) (r : Bool) → n ≡ slots T → r ≡ allBelow (alone T) n → r ≡ addressesOk T
+unfolding addressesOk
+addresses-all T n r e q = rw (q, e) refl
+
+forms-law : (t own gs : List ℕ) (h : Header) (n : ℕ) (s : Bool) → Whole t h n → own ≡ h .own → gs ≡ groupsOf h → s ≡ allBelow (λ k. peerOk own gs (slot (decodeTable t) k)) n → s ≡ slotsOk (decodeTable t)
+unfolding slotsOk
+forms-law t own gs h n s w eo eg es =
     let n′ : n ≡ slots (decodeTable t) = w .slots in
     let o : own ≡ decodeTable t .header .own = eo ∙ ap (λ (g : Header). g .own) (w .header) in
     let g : gs ≡ groupsOf (decodeTable t .header) = eg ∙ ap groupsOf (w .header) in
-    rw (es, ea, ec, o, g, n′) refl
+    rw (es, o, g, n′) refl
+
+counted-right : (t : List ℕ) (h : Header) (n : ℕ) → Whole t h n → countsOk (decodeTable t) ≡ true → h .used ≡ usedCount (decodeTable t)
+unfolding countsOk
+counted-right t h n w z = ap (λ (g : Header). g .used) (w .header) ∙ eqb-true _ _ (and-left _ _ z)
+
+none : (x : Bool) → (x && false) ≡ false
+none true = refl
+none false = refl
+
+-- what `body_ok` shows: where the count is wrong, the addresses do not tell
+pub body-law : (t own gs : List ℕ) (h : Header) (n : ℕ) (s a c : Bool) → Whole t h n → own ≡ h .own → gs ≡ groupsOf h
+    → s ≡ allBelow (λ k. peerOk own gs (slot (decodeTable t) k)) n → (h .used ≡ usedCount (decodeTable t) → a ≡ addressesOk (decodeTable t)) → c ≡ countsOk (decodeTable t)
+    → (s && (a && c)) ≡ (slotsOk (decodeTable t) && (addressesOk (decodeTable t) && countsOk (decodeTable t)))
+body-law t own gs h n s a c w eo eg es ea ec = ap (λ (x : Bool). x && (a && c)) slots-are ∙ ap (λ (x : Bool). slotsOk (decodeTable t) && x) (go (cases (countsOk (decodeTable t))))
+  where
+    slots-are : s ≡ slotsOk (decodeTable t)
+    slots-are = forms-law t own gs h n s w eo eg es
+
+    go : (countsOk (decodeTable t) ≡ true) ⊎ (countsOk (decodeTable t) ≡ false) → (a && c) ≡ (addressesOk (decodeTable t) && countsOk (decodeTable t))
+    go (inl z) = rw (ec, ea (counted-right t h n w z)) refl
+    go (inr z) = rw (ec, z) (none a ∙ sym (none (addressesOk (decodeTable t))))
 
 -- what `find`, `free_slot` and `enter` show
 pub find-law : (t : List ℕ) (n : ℕ) (a : List ℕ) (x : ℕ) (r : Found) → n ≡ slots (decodeTable t) → x ≡ num a

@@ -246,11 +246,14 @@ fn differ_in(t: &[u8], n: usize, keys: &mut [u64]) -> bool
     all_new(keys, n)
 }
 
-// The same, with no more room for keys than a small table needs.
-fn addresses_ok(t: &[u8], n: usize) -> bool
-    requires { ⌜ (32 + size * n ≤ length (now t)) × (n ≤ 64) ⌝ }
-    ensures { λ r. ⌜ r ≡ allBelow (alone (decodeTable (now (t .entry)))) n ⌝ }
+// The same, if `used` is the number of slots in use: fewer than two have no address twice. No more room is taken for keys than a small table needs.
+fn addresses_ok(t: &[u8], n: usize, used: u16) -> bool
+    requires { ⌜ (32 + size * n ≤ length (now t)) × ((n ≤ 64) × (n ≡ slots (decodeTable (now t)))) ⌝ }
+    ensures { λ r. ⌜ (used ≡ usedCount (decodeTable (now (t .entry))) → r ≡ addressesOk (decodeTable (now (t .entry)))) ⌝ }
 {
+    if used < 2 {
+        return true;
+    }
     if n <= FEW {
         let mut few = [0u64; FEW];
         return differ_in(t, n, &mut few[..]);
@@ -276,7 +279,7 @@ fn body_ok(t: &[u8], h: Header, n: usize) -> bool
     let gs = h.groups;
     let m = h.count as usize;
     let slots = slots_ok(t, n, own, &gs[..m]);
-    let addresses = addresses_ok(t, n);
+    let addresses = addresses_ok(t, n, h.used);
     let counts = counts_ok(t, h, n);
     slots & (addresses & counts)
 }
