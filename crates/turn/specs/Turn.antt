@@ -12,6 +12,7 @@ use Rattle.acts.specs.declared.Event.the-variants as event
 use Rattle.acts.specs.declared.Frames.the-variants as frames
 use Rattle.acts.specs.declared.Step.{Step}
 use Rattle.acts.specs.declared.Said.{Said}
+use Rattle.acts.specs.Said.{saying}
 use Rattle.table.specs.Table.{Table, decodeTable, encodeTable, slots, freeSlot, sound, placed}
 use Rattle.turn.specs.declared.Refusal.{Refusal}
 use Rattle.turn.specs.declared.Refusal.the-variants as why
@@ -52,12 +53,11 @@ unfoldable pub noneDue : Answer
 noneDue = record { outcome = outcome.NoneDue; event = event.None; frames = frames.None; fresh = 0; address = replicate 6 0 }
 
 -- "A step answers: host event; frames to send, in order; stock group used or 0; the address."
-unfoldable pub said : Step → List ℕ → Answer
-said s address = record { outcome = outcome.Done; event = s .event; frames = s .frames; fresh = s .fresh; address = address }
-
--- the same, of what a step says
 abbrev pub answered : Said → List ℕ → Answer
 answered s address = record { outcome = outcome.Done; event = s .event; frames = s .frames; fresh = s .fresh; address = address }
+
+unfoldable pub said : Step → List ℕ → Answer
+said s address = answered (saying s) address
 
 -- "Set up and kill answer event 0, no frames, group 0 and the address given."
 unfoldable pub quiet : List ℕ → Answer
