@@ -18,13 +18,14 @@ use Rattle.record.specs.declared.Run.{Run}
 use Rattle.record.specs.declared.Link.{Link}
 use Rattle.record.specs.declared.Peer.{Peer}
 use Rattle.record.proofs.Laws.{ShapeLink, dec-enc-link}
-use Rattle.fields.proofs.Windows.{laid, laid-put, used-left, address-left, run-window, run-left, link-window, link-left, no-run-left, no-link-left, no-peer-left}
-use Rattle.acts.specs.Acts.{factory, deadline, delay, withRun, withLink, counting, setT0, sending, settled, abandoning, retransmitting, dropping, formedRun, forming, supersede, linkOfRun, accepting, endingLink}
-use Rattle.acts.specs.Said.{sayingFrames, sayingEvent, Does}
-use Rattle.acts.specs.declared.Event.the-variants as event
-use Rattle.acts.specs.declared.Frames.{Frames}
-use Rattle.acts.specs.declared.Frames.the-variants as frames
-use Rattle.acts.specs.declared.Said.{Said}
+use Rattle.record.proofs.Windows.{laid, laid-put, used-left, address-left, run-window, run-left, link-window, link-left, no-run-left, no-link-left, no-peer-left}
+use Rattle.rules.specs.Parts.{withRun, withLink, counting}
+use Rattle.rules.specs.Book.{factory, deadline, delay, setT0, sending, settled, abandoning, retransmitting, dropping, formedRun, forming, supersede, linkOfRun, accepting, endingLink}
+use Rattle.rules.specs.Said.{sayingFrames, sayingEvent, Does}
+use Rattle.rules.specs.declared.Event.the-variants as event
+use Rattle.rules.specs.declared.Frames.{Frames}
+use Rattle.rules.specs.declared.Frames.the-variants as frames
+use Rattle.rules.specs.declared.Said.{Said}
 
 -- ---- in the run's octets
 
@@ -214,15 +215,15 @@ module _ (s : List ℕ) (h : length s ≡ recordSize width) where
       }
 
   -- "Form"
-  pub form-pair-law : (y z u v address own theirs : List ℕ) (group fresh time : ℕ) (fs : Frames) (x : Said)
+  pub form-pair-law : (y z u v address own theirs : List ℕ) (group afresh time : ℕ) (fs : Frames) (x : Said)
       → length y ≡ runSize width → length z ≡ linkSize width → length (putMid 7 (runSize width) s y) ≡ recordSize width → length (putMid (7 + runSize width) (linkSize width) (putMid 7 (runSize width) s y) z) ≡ recordSize width → length u ≡ recordSize width → length address ≡ 6
       → decodeRun width y ≡ formedRun factory (decodeRun width (take (runSize width) (drop 7 s))) group own theirs time
       → decodeLink width z ≡ supersede (decodeLink width (take (linkSize width) (drop (7 + runSize width) (putMid 7 (runSize width) s y))))
       → u ≡ put (putMid (7 + runSize width) (linkSize width) (putMid 7 (runSize width) s y) z) 0 (oct 1 1) → v ≡ put u 1 address
-      → x ≡ record { event = event.None; frames = fs; fresh = fresh }
-      → Does x v (forming factory (decodePeer width s) address group own theirs fs fresh time)
+      → x ≡ record { event = event.None; frames = fs; afresh = afresh; refused = false }
+      → Does x v (forming factory (decodePeer width s) address group own theirs fs afresh time)
   unfolding forming
-  form-pair-law y z u v address own theirs group fresh time fs x ny nz na nb nu nd ey ez eu ev w =
+  form-pair-law y z u v address own theirs group afresh time fs x ny nz na nb nu nd ey ez eu ev w =
       let a = run-left s h y (formedRun factory (decodePeer width s .run) group own theirs time) ny (ey ∙ ap (λ (r : Run). formedRun factory r group own theirs time) (run-window s h)) in
       let k = link-window (putMid 7 (runSize width) s y) na in
       let b = link-left (putMid 7 (runSize width) s y) na z (supersede (decodePeer width s .link)) nz (ez ∙ ap supersede (k ∙ ap (λ (p : Peer). p .link) a)) in

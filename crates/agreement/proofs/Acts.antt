@@ -1,12 +1,12 @@
 -- Each step is one act of the protocol: what the record says before and after, and what the step uses, forms, accepts and sends.
-use mathlib.Core.Path.{_≡_, refl, sym, ap, _∙_, subst}
+use mathlib.Core.Path.{_≡_, refl, sym, ap, _∙_}
 use mathlib.Core.Logic.{_⊎_, inl, inr}
-use mathlib.Core.Bool.{Bool, true, false, not, _&&_, _||_}
-use mathlib.Core.List.{List, [], _∷_}
+use mathlib.Core.Bool.{Bool, true, false}
+use mathlib.Core.List.{List, []}
 use Prim.Native.Nat.{ℕ, _+_, _≤_}
 use native.Mathlib.Omega.{arith}
 use lib.Dec.{eqb}
-use borrow.Author.Tests.{eqb-true, eq-eqb, ne-eqb, eqb-false}
+use borrow.Author.Tests.{ne-eqb, not-true}
 use Rattle.protocol.specs.Model.{Commit, nothing, committed, confirmed, unlinked, finished, Act, fresh, formFresh, formOwn, sendCommit, sendConfirm, sendBoth, accept, endRun, endLink, idle, act, Uses, Forms, SendsCommit, SendsConfirm, Accepts, Unpaired, Guard}
 use Rattle.protocol.specs.Model as model
 use Rattle.octets.specs.Scan.{if_then_else_}
@@ -16,16 +16,14 @@ use Rattle.record.specs.declared.Run.{Run}
 use Rattle.record.specs.declared.Link.{Link}
 use Rattle.record.specs.declared.Peer.{Peer}
 use Rattle.record.specs.Layout.{noRun, noLink}
-use Rattle.acts.specs.declared.Frame.{Frame}
-use Rattle.acts.specs.declared.Frames.{Frames}
-use Rattle.acts.specs.declared.Frames.the-variants.{None, One, Two}
-use Rattle.acts.specs.declared.Step.{Step}
-use Rattle.acts.specs.Acts.{_is_, _isnt_, supersede}
+use Rattle.rules.specs.declared.Frame.{Frame}
+use Rattle.rules.specs.declared.Frames.the-variants.{None, One, Two}
+use Rattle.rules.specs.Book.{Step}
+use Rattle.rules.specs.Book.{_is_, _isnt_, supersede}
 use Rattle.agreement.specs.Calls.{Call}
 use Rattle.agreement.specs.Story.{stockOf, someFrame, isConfirm, isFirstConfirm}
 use Rattle.agreement.specs.Sent.{Among, only, first, second}
-use Rattle.agreement.proofs.Rules.{either, SameRun, SameLink, Afresh, Committed, Confirmed, Hears, Verified, Does, quiet, informs, starts, switches, forms-fresh, forms-own, repeats, replies, repeats-both, repeats-confirm, accepts, abandons, ends, answers}
-use Rattle.agreement.proofs.Ruled.{not-true}
+use Rattle.agreement.proofs.Rules.{SameRun, SameLink, Afresh, Hears, Verified, Does, quiet, informs, starts, switches, forms-fresh, forms-own, repeats, replies, repeats-both, repeats-confirm, accepts, abandons, ends, answers}
 
 -- ---- what a record is to the protocol
 
@@ -126,7 +124,7 @@ pub record Accepting (gs : List ℕ) (c : Call) (p : Peer) (d q : Commit) : Type
 pub record Did (gs : List ℕ) (c : Call) (p : Peer) (o : Step) (e : Act) : Type 0 where
   pub moves : act e (view p) ≡ view (o .peer)
   pub may : Guard e (view p)
-  pub uses : (d : Commit) → Uses d e → (eqb (o .fresh) 0 ≡ false) × (record { group = o .fresh; octets = freshFor gs (stockOf c) (o .fresh) } ≡ d)
+  pub uses : (d : Commit) → Uses d e → (eqb (o .afresh) 0 ≡ false) × (record { group = o .afresh; octets = freshFor gs (stockOf c) (o .afresh) } ≡ d)
   pub forms : (d q : Commit) → Forms d q e → Forming gs c o d q
   pub accepts : (d q : Commit) → Accepts d q e → Accepting gs c p d q
   pub commits : (x : Frame) → Among x (o .frames) → isConfirm x ≡ false → eqb (x .status) 0 ≡ true → SendsCommit (ownCommit (o .peer)) e

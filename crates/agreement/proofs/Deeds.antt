@@ -1,35 +1,33 @@
 -- What a call is to one address: an act of the protocol, with what its answer says of it.
 use mathlib.Core.Path.{_≡_, refl, sym, ap, _∙_, subst}
-use mathlib.Core.Logic.{_⊎_, inl, inr}
-use mathlib.Core.Bool.{Bool, true, false, not, _&&_, _||_}
-use mathlib.Core.List.{List, [], _∷_}
+use mathlib.Core.Bool.{Bool, true, false, not}
+use mathlib.Core.List.{List, []}
 use Prim.Native.Nat.{ℕ, _+_}
 use lib.Dec.{eqb}
-use Rattle.protocol.specs.Model.{Commit, Act, endBoth, idle, act, Uses, Forms, SendsCommit, SendsConfirm, Accepts, Guard, nothing, unlinked}
-use Rattle.protocol.specs.Model as model
+use Rattle.protocol.specs.Model.{Commit, Act, endBoth, idle, act, Uses, Forms, SendsCommit, Accepts, Guard, nothing, unlinked}
 use Rattle.protocol.specs.Repeats.{Tally}
 use Rattle.octets.specs.Octets.{sameAddress}
 use Rattle.octets.proofs.Scan.{clash}
 use Rattle.record.specs.declared.Run.{Run}
 use Rattle.record.specs.declared.Peer.{Peer}
 use Rattle.record.specs.Layout.{noPeer, noRun, noLink}
-use Rattle.table.specs.Table.{Table, decodeTable, look, sound}
-use Rattle.acts.specs.declared.Frame.{Frame}
-use Rattle.acts.specs.declared.Frames.{Frames}
-use Rattle.acts.specs.declared.Frames.the-variants.{None, One, Two}
-use Rattle.acts.specs.declared.Step.{Step}
-use Rattle.turn.specs.declared.Answer.{Answer}
-use Rattle.turn.specs.Turn.{said}
-use Rattle.engine.specs.Calls.{killStep}
-use Rattle.agreement.specs.Calls.{Call, initialize, initiate, kill, receive, expire, left, done, tableAfter}
+use Rattle.table.specs.Table.{decodeTable, look, sound}
+use Rattle.rules.specs.declared.Frame.{Frame}
+use Rattle.rules.specs.declared.Frames.{Frames}
+use Rattle.rules.specs.declared.Frames.the-variants.{None}
+use Rattle.rules.specs.Book.{Step}
+use Rattle.answers.specs.declared.Answer.{Answer}
+use Rattle.answers.specs.Answers.{said}
+use Rattle.calls.specs.Calls.{killStep}
+use Rattle.agreement.specs.Calls.{Call, kill, receive, left, done, tableAfter}
 use Rattle.agreement.specs.Story.{Pair, Story, isFrame, isConfirm, usesAfresh, usedAfresh, formsPair, groupsIn}
 use Rattle.agreement.specs.Sent.{Among}
-use Rattle.agreement.proofs.Rules.{Hears, Verified, verified, Does}
+use Rattle.agreement.proofs.Rules.{Hears, Verified, verified}
 use Rattle.agreement.proofs.Shows.{RunShows, no-run, unpaired, paired, Shows, shows-state, shows-whole, zero-two, one-two}
 use Rattle.agreement.proofs.Ruled.{no-run-state}
-use Rattle.agreement.proofs.Engine.{Told, a-start, a-frame, a-clock, Made, Ends, idles, sets-up, frees, steps}
+use Rattle.agreement.proofs.Engine.{Told, a-start, a-frame, a-clock, Ends, idles, sets-up, frees, steps}
 use Rattle.agreement.proofs.History.{look-same-address}
-use Rattle.agreement.proofs.Acts.{ownCommit, peerCommit, view, viewRun, viewLink, Over, Did, did, view-no-run, view-no-link}
+use Rattle.agreement.proofs.Acts.{ownCommit, peerCommit, view, viewRun, viewLink, Over, Did, did}
 
 -- a frame call from the address b
 pub data From (b : List ℕ) : Call → Type 0 where

@@ -1,10 +1,9 @@
 -- Demand 3 holds, over every list of calls.
 use mathlib.Core.Path.{_≡_, refl, sym, ap, _∙_, subst}
-use mathlib.Core.Bool.{Bool, true, false, not}
+use mathlib.Core.Bool.{Bool, true, false}
 use mathlib.Core.List.{List}
 use Prim.Native.Nat.{ℕ}
 use native.Mathlib.Omega.{arith}
-use lib.Dec.{eqb}
 use Rattle.protocol.specs.Model.{Commit, Side, A, B, other, state, unlinked, finished}
 use Rattle.protocol.specs.Model as model
 use Rattle.protocol.proofs.Agree.{agreement, formed-before}
@@ -13,8 +12,8 @@ use Rattle.record.specs.declared.Link.{Link}
 use Rattle.record.specs.declared.Peer.{Peer}
 use Rattle.record.specs.Layout.{noLink}
 use Rattle.table.specs.Table.{decodeTable, look}
-use Rattle.acts.specs.Acts.{_isnt_}
-use Rattle.lawful.proofs.Good as good
+use Rattle.rules.specs.Book.{_isnt_}
+use Rattle.call_laws.proofs.Good as good
 use Rattle.agreement.specs.Calls.{Entry, AllHanded, tableOf}
 use Rattle.agreement.specs.Story.{Pair, exchanged, storyOf}
 use Rattle.agreement.specs.Story as story

@@ -1,21 +1,20 @@
 -- What a call of the engine does to its table: nothing, where it is refused or nothing is due; or a step of one of the kinds, at one address alone.
 use mathlib.Core.Path.{_≡_, refl, sym, ap, _∙_, subst}
 use mathlib.Core.Logic.{_⊎_, inl, inr}
-use mathlib.Core.Bool.{Bool, true, false, not, _&&_, _||_}
-use mathlib.Core.List.{List, [], _∷_}
-use Prim.Native.Nat.{ℕ, zero, suc, _+_, _^_, _≤_, _<_}
+use mathlib.Core.Bool.{Bool, true, false, not}
+use mathlib.Core.List.{List, []}
+use Prim.Native.Nat.{ℕ, _^_, _<_}
 use native.Mathlib.Omega.{arith}
 use lib.Dec.{eqb, ltb}
-use lib.ListN.{length, take, getD}
-use lib.Seq.{getD-take}
-use borrow.Author.Tests.{eqb-true, eq-eqb, ne-eqb, eqb-false}
+use lib.ListN.{length}
+use borrow.Author.Tests.{eqb-true, ne-eqb, not-false}
 use Rattle.octets.specs.Scan.{if_then_else_}
-use Rattle.octets.specs.Octets.{Bytes, sameAddress, same}
+use Rattle.octets.specs.Octets.{Bytes, sameAddress}
 use Rattle.octets.specs.declared.Found.{Found}
 use Rattle.octets.specs.declared.Found.the-variants as found
-use Rattle.octets.proofs.Scan.{clash, and-left, and-right, cases, first-at}
-use Rattle.groups.specs.Groups.{listed, freshAt, stored}
-use Rattle.frame.specs.Frame.{readBody, tokenOf, commitOf}
+use Rattle.octets.proofs.Scan.{clash}
+use Rattle.groups.specs.Groups.{freshOk}
+use Rattle.frame.specs.Frame.{readBody}
 use Rattle.frame.specs.declared.Body.{Body}
 use Rattle.frame.specs.declared.Body.the-variants as body
 use Rattle.frame.proofs.Shapes.{commit-shape, other-commit-shape, other-confirm-shape}
@@ -23,38 +22,32 @@ use Rattle.record.specs.declared.Peer.{Peer}
 use Rattle.record.specs.declared.Settings.{Settings}
 use Rattle.record.specs.declared.Header.{Header}
 use Rattle.record.specs.Layout.{groupsOf, counted, noPeer, decodeHeader, headerOf}
-use Rattle.form.proofs.Laws.{header-form, groups-form, groups-length}
-use Rattle.table.specs.Table.{Table, decodeTable, slot, slots, finds, look, lookBy, sound, entry}
-use Rattle.table.specs.Fresh.{freshOk, initial, freshTable, slotsFor}
+use Rattle.soundness.proofs.Laws.{header-form, groups-form, groups-length}
+use Rattle.table.specs.Table.{Table, decodeTable, slot, finds, look, lookBy, sound, entry}
+use Rattle.table.specs.Initial.{initialOk, slotsFor}
 use Rattle.table.specs.declared.Entry.{Entry}
 use Rattle.table.specs.declared.Entry.the-variants as entry-is
 use Rattle.table.proofs.Laws.{entry-at, entry-absent, sound-header}
-use Rattle.table.proofs.Fit.{fit-decoded, fit-slot}
-use Rattle.table.proofs.Fresh.{FitSettings, fresh-slot, initial-sound, initial-decoded, bytes-initial}
-use Rattle.acts.specs.declared.Step.{Step}
-use Rattle.acts.specs.declared.Frames.the-variants as frames
-use Rattle.acts.specs.Acts.{_is_, _isnt_, factory}
-use Rattle.machine.specs.declared.Received.{Received}
-use Rattle.machine.specs.Rules.{onExpired}
-use Rattle.turn.specs.declared.Refusal.{Refusal}
-use Rattle.turn.specs.declared.Refusal.the-variants as why
-use Rattle.turn.specs.declared.Turn.{Turn}
-use Rattle.turn.specs.declared.Turn.the-variants.{Refused, Go}
-use Rattle.turn.specs.declared.Outcome.the-variants as outcome
-use Rattle.turn.specs.declared.Answer.{Answer}
-use Rattle.turn.specs.Turn.{Left, turned, finishes, refuse, refused, quiet, noneDue, said}
-use Rattle.turn.proofs.Laws.{Entered, old, new}
-use Rattle.turn.proofs.Theorems.{Good}
-use Rattle.turn.proofs.Ending.{Finished, Turned, turn-ends, finish-ends}
-use Rattle.turn.proofs.Ending as ending
-use Rattle.due.specs.Due.{dueSlot}
-use Rattle.intake.specs.Intake.{commitsOk, heardCommit, heardToken, bareCommit, isMalformed}
-use Rattle.engine.specs.Calls.{initializes, initiates, kills, receives, expires, expiresBy, running, admitStart, startTurn, startStep, killTurn, killStep, admitFrame, frameTurn, frameStep, frameStepBy, commitStep, confirmStep}
+use Rattle.table.proofs.Initial.{FitSettings, initial-slot, initial-decoded, bytes-initial}
+use Rattle.rules.specs.declared.Frames.the-variants as frames
+use Rattle.rules.specs.Book.{_is_, hasRun, Step, silence}
+use Rattle.message.specs.View.{view, viewOf, message, messageOf, commitIn}
+use Rattle.answers.specs.declared.Refusal.{Refusal}
+use Rattle.answers.specs.declared.Refusal.the-variants as why
+use Rattle.answers.specs.declared.Turn.{Turn}
+use Rattle.answers.specs.declared.Turn.the-variants.{Refused, Go}
+use Rattle.answers.specs.declared.Answer.{Answer}
+use Rattle.answers.specs.Answers.{Left, turned, finishes, refuse, refused, quiet, noneDue, said}
+use Rattle.answers.proofs.Laws.{Entered, old, new}
+use Rattle.answers.proofs.Theorems.{Good}
+use Rattle.answers.proofs.Ending.{Finished, Turned, turn-ends, finish-ends}
+use Rattle.answers.proofs.Ending as ending
+use Rattle.calls.specs.Calls.{initializes, initiates, kills, receives, expires, expiresBy, termsOf, brings, noToken, admitStart, startTurn, startStep, killTurn, killStep, admitFrame, frameTurn, frameStep, dueSlot, clockStep}
 use Rattle.agreement.specs.Calls.{Call, initialize, initiate, kill, receive, expire, Octets, SettingsHanded, CallHanded, an-initialize, an-initiate, a-kill, a-receive, an-expire, left, isDone, done, tableAfter}
-use Rattle.agreement.specs.Story.{stockOf, isFrame, getsTokenRequest, groupsIn}
-use Rattle.agreement.proofs.Rules.{Whole, Hears, Verified, verified, Does}
-use Rattle.agreement.proofs.Ruled.{State, idle, Heard, Stocked, commit-does, confirm-does, expired-does, start-does, not-true, not-false}
-use Rattle.agreement.proofs.Stock.{Listing, sound-listing, stocked}
+use Rattle.agreement.specs.Story.{stockOf, groupsIn}
+use Rattle.agreement.proofs.Rules.{Whole, Verified, verified, Does}
+use Rattle.agreement.proofs.Ruled.{State, Heard, Stocked, frame-does, clock-does, start-does}
+use Rattle.agreement.proofs.Stock.{sound-listing, stocked}
 
 -- ---- what the engine's proofs give: each call's step leaves a record of the right form
 
@@ -66,7 +59,7 @@ pub record Lawful : Type 0 where
       → Bytes frame → Bytes fresh → Bytes expected → verdict < 2 ^ 8
       → frameTurn (entry t a) t frame fresh expected verdict ≡ Go f → Good t a f (frameStep (decodeTable t) f a time frame fresh expected verdict)
   pub expire-good : (t : List ℕ) (time k : ℕ) → Bytes t → time < 2 ^ 32 → sound t ≡ true → dueSlot (decodeTable t) time ≡ found.At k
-      → Good t (slot (decodeTable t) k .address) (found.At k) (onExpired factory (slot (decodeTable t) k) time)
+      → Good t (slot (decodeTable t) k .address) (found.At k) (clockStep (decodeTable t) k time)
   pub expire-address : (t : List ℕ) (time k : ℕ) → Bytes t → sound t ≡ true → dueSlot (decodeTable t) time ≡ found.At k
       → (length (slot (decodeTable t) k .address) ≡ 6) × Bytes (slot (decodeTable t) k .address)
 
@@ -84,31 +77,39 @@ past true c x f e = clashed e
 past false c x f e = (refl, e)
 
 admit-start : (T : Table) (g : Found) (fresh : List ℕ) (f : Found) → admitStart T g fresh ≡ Go f
-    → (commitsOk (groupsOf (T .header)) fresh ≡ true) × ((eqb (lookBy T f .run .state) 0 ≡ true))
+    → (freshOk (groupsOf (T .header)) fresh ≡ true) × ((eqb (lookBy T f .run .state) 0 ≡ true))
 unfolding admitStart
 admit-start T g fresh f e =
-    let a = past (not (commitsOk (groupsOf (T .header)) fresh)) why.Fresh (if running (lookBy T g) then Refused why.Running else Go g) f e in
-    let b = past (running (lookBy T g)) why.Running (Go g) f (a .1) in
+    let a = past (not (freshOk (groupsOf (T .header)) fresh)) why.Fresh (if hasRun (lookBy T g) then Refused why.Running else Go g) f e in
+    let b = past (hasRun (lookBy T g)) why.Running (Go g) f (a .1) in
     (not-false _ (a .0), subst (λ (x : Found). eqb (lookBy T x .run .state) 0 ≡ true) (go-same (b .1)) (not-false _ (b .0)))
 
 start-admits : (E : Entry) (t fresh : List ℕ) (f : Found) → startTurn E t fresh ≡ Go f
-    → (commitsOk (groupsIn t) fresh ≡ true) × (eqb (lookBy (decodeTable t) f .run .state) 0 ≡ true)
+    → (freshOk (groupsIn t) fresh ≡ true) × (eqb (lookBy (decodeTable t) f .run .state) 0 ≡ true)
 unfolding startTurn
 start-admits entry-is.Unsound t fresh f e = clashed e
 start-admits entry-is.Unusable t fresh f e = clashed e
 start-admits entry-is.Absent t fresh f e = admit-start (decodeTable t) found.Nothing fresh f e
 start-admits (entry-is.At k) t fresh f e = admit-start (decodeTable t) (found.At k) fresh f e
 
-stock-past : (b x y z : Bool) (g f : Found)
-    → (if not b then Refused why.Fresh else if x then Refused why.Token else if y then Refused why.Verdict else if z then Refused why.Body else Go g) ≡ Go f → b ≡ true
-stock-past b x y z g f e = not-false b (past (not b) why.Fresh (if x then Refused why.Token else if y then Refused why.Verdict else if z then Refused why.Body else Go g) f e .0)
+admit-frame : (b x y z : Bool) (g f : Found)
+    → (if not b then Refused why.Fresh else if x then Refused why.Token else if y then Refused why.Verdict else if z then Refused why.Body else Go g) ≡ Go f
+    → (b ≡ true) × (z ≡ false)
+admit-frame b x y z g f e =
+    let p = past (not b) why.Fresh (if x then Refused why.Token else if y then Refused why.Verdict else if z then Refused why.Body else Go g) f e in
+    let q = past x why.Token (if y then Refused why.Verdict else if z then Refused why.Body else Go g) f (p .1) in
+    let r = past y why.Verdict (if z then Refused why.Body else Go g) f (q .1) in
+    (not-false b (p .0), past z why.Body (Go g) f (r .1) .0)
 
-frame-admits : (E : Entry) (t frame fresh expected : List ℕ) (verdict : ℕ) (f : Found) → frameTurn E t frame fresh expected verdict ≡ Go f → commitsOk (groupsIn t) fresh ≡ true
+frame-admits : (E : Entry) (t frame fresh expected : List ℕ) (verdict : ℕ) (f : Found) → frameTurn E t frame fresh expected verdict ≡ Go f
+    → (freshOk (groupsIn t) fresh ≡ true) × (eqb (view (groupsIn t) frame .sequence) 0 ≡ false)
 unfolding frameTurn admitFrame
 frame-admits entry-is.Unsound t frame fresh expected verdict f e = clashed e
 frame-admits entry-is.Unusable t frame fresh expected verdict f e = clashed e
-frame-admits entry-is.Absent t frame fresh expected verdict f e = stock-past (commitsOk (groupsIn t) fresh) (not (eqb (length expected) 32)) (ltb 1 verdict) (isMalformed (readBody (groupsIn t) frame)) _ f e
-frame-admits (entry-is.At k) t frame fresh expected verdict f e = stock-past (commitsOk (groupsIn t) fresh) (not (eqb (length expected) 32)) (ltb 1 verdict) (isMalformed (readBody (groupsIn t) frame)) _ f e
+frame-admits entry-is.Absent t frame fresh expected verdict f e =
+    admit-frame (freshOk (groupsIn t) fresh) (not (eqb (length expected) 32)) (ltb 1 verdict) (view (groupsIn t) frame .sequence is 0) found.Nothing f e
+frame-admits (entry-is.At k) t frame fresh expected verdict f e =
+    admit-frame (freshOk (groupsIn t) fresh) (not (eqb (length expected) 32)) (ltb 1 verdict) (view (groupsIn t) frame .sequence is 0) (found.At k) f e
 
 -- the record that a call found is its address's
 entered-look : (t a : List ℕ) (f : Found) → Entered t a f → lookBy (decodeTable t) f ≡ look (decodeTable t) a
@@ -123,79 +124,82 @@ entered-sound t a f (new e) = entry-absent t a e .0
 -- ---- the rules at work
 
 module _ (t : List ℕ) (s : sound t ≡ true) where
-  first-listed : (0 < length (groupsIn t)) × (getD (groupsIn t) 0 0 ≡ getD (decodeTable t .header .groups) 0 0)
+  first-listed : 0 < length (groupsIn t)
   unfolding decodeTable decodeHeader headerOf
   first-listed =
       let g = header-form _ (sound-header t s) .groups in
       let n = groups-length _ _ refl g in
       let m = groups-form _ _ g .some in
-      (omega (arith, n, m), getD-take _ _ _ _ m)
+      omega (arith, n, m)
 
-  all-stocked : (c : Call) → commitsOk (groupsIn t) (stockOf c) ≡ true → Stocked (groupsIn t) c
+  all-stocked : (c : Call) → freshOk (groupsIn t) (stockOf c) ≡ true → Stocked (groupsIn t) c
   all-stocked c w = let l = sound-listing t s in stocked (groupsIn t) (stockOf c) (l .known) (l .once) w c refl
 
 start-kind : (t a : List ℕ) (time : ℕ) (fresh : List ℕ) (f : Found) → sound t ≡ true → startTurn (entry t a) t fresh ≡ Go f
+    → startStep (decodeTable t) f a time fresh .refused ≡ false
     → Does (groupsIn t) (initiate a time fresh) (lookBy (decodeTable t) f) (startStep (decodeTable t) f a time fresh)
 unfolding startStep
-start-kind t a time fresh f s e =
+start-kind t a time fresh f s e r =
     let q = start-admits (entry t a) t fresh f e in
-    let g = first-listed t s in
-    start-does (groupsIn t) (initiate a time fresh) (lookBy (decodeTable t) f) a (getD (decodeTable t .header .groups) 0 0) (freshAt fresh 0) time refl refl (eqb-true _ _ (q .1))
-    (all-stocked t s (initiate a time fresh) (q .0) .place 0 _ (g .0) (g .1))
+    start-does (termsOf (decodeTable t) f) (brings a time fresh noToken false) (initiate a time fresh) (lookBy (decodeTable t) f) refl refl (eqb-true _ _ (q .1))
+    (all-stocked t s (initiate a time fresh) (q .0) .place 0 _ (first-listed t s) refl) r
 
 module _ (gs a : List ℕ) (time : ℕ) (frame fresh expected : List ℕ) (verdict : ℕ) where
   abbrev frameCall : Call
   frameCall = receive a time frame fresh expected verdict
 
-  heard-commit : (g n : ℕ) → readBody gs frame ≡ body.Commit g n → Heard gs frameCall (heardCommit frame g n)
-  unfolding heardCommit
-  heard-commit g n e = record {
-    commit = λ z l. (record { token = n; frame = refl; reads = e; stored-as = refl }, commit-shape gs frame g n e .supported);
-    request = λ z. absurd (omega arith);
-    other = λ z. rw e;
-  }
-
-  heard-token : (g n : ℕ) → readBody gs frame ≡ body.TokenRequest g n → Heard gs frameCall (heardToken frame g n)
-  unfolding heardToken
-  heard-token g n e = record { commit = λ z l. absurd (omega arith); request = λ z. rw e; other = λ z. absurd (z refl) }
-
-  heard-bare : (x g : ℕ) → ((x ≡ 76) → ⊥) → getsTokenRequest gs frameCall ≡ false → Heard gs frameCall (bareCommit x g)
-  unfolding bareCommit
-  heard-bare x g n e = record { commit = λ z l. absurd (clash l refl); request = λ z. absurd (n z); other = λ z. e }
-
   is-verified : (n : ℕ) → readBody gs frame ≡ body.Confirm n → (verdict is 1) ≡ true → Verified gs frameCall
   is-verified n e v = subst (λ (x : ℕ). Verified gs (receive a time frame fresh expected x)) (sym (eqb-true _ _ v)) (verified e)
 
-module _ (t a : List ℕ) (time : ℕ) (frame fresh expected : List ℕ) (verdict : ℕ) (f : Found) (S : Stocked (groupsIn t) (receive a time frame fresh expected verdict))
-    (W : Whole (lookBy (decodeTable t) f)) (z : State (lookBy (decodeTable t) f .run .state)) where
-  frame-kind-by : (b : Body) → readBody (groupsIn t) frame ≡ b
-      → Does (groupsIn t) (receive a time frame fresh expected verdict) (lookBy (decodeTable t) f) (frameStepBy b (decodeTable t) f a time frame fresh expected (verdict is 1))
-  unfolding frameStepBy commitStep confirmStep
-  frame-kind-by (body.Commit g n) e =
-      commit-does (groupsIn t) (receive a time frame fresh expected verdict) (lookBy (decodeTable t) f) refl W _ a _ _ _ _ time z (heard-commit (groupsIn t) a time frame fresh expected verdict g n e) S
-  frame-kind-by (body.Unsupported g) e =
-      commit-does (groupsIn t) (receive a time frame fresh expected verdict) (lookBy (decodeTable t) f) refl W _ a _ _ _ _ time z
-      (heard-bare (groupsIn t) a time frame fresh expected verdict 0 g (λ q. omega arith) (rw e)) S
-  frame-kind-by (body.TokenRequest g n) e =
-      commit-does (groupsIn t) (receive a time frame fresh expected verdict) (lookBy (decodeTable t) f) refl W _ a _ _ _ _ time z (heard-token (groupsIn t) a time frame fresh expected verdict g n e) S
-  frame-kind-by (body.GroupRefusal g) e =
-      commit-does (groupsIn t) (receive a time frame fresh expected verdict) (lookBy (decodeTable t) f) refl W _ a _ _ _ _ time z
-      (heard-bare (groupsIn t) a time frame fresh expected verdict 77 g (λ q. omega arith) (rw e)) S
-  frame-kind-by (body.OtherCommit x) e =
-      commit-does (groupsIn t) (receive a time frame fresh expected verdict) (lookBy (decodeTable t) f) refl W _ a _ _ _ _ time z
-      (heard-bare (groupsIn t) a time frame fresh expected verdict x 0 (other-commit-shape (groupsIn t) frame x e .no-request) (rw e)) S
-  frame-kind-by (body.Confirm n) e =
-      confirm-does (groupsIn t) (receive a time frame fresh expected verdict) (lookBy (decodeTable t) f) refl W 0 n _ time z (rw e)
-      (λ q v. is-verified (groupsIn t) a time frame fresh expected verdict n e v)
-  frame-kind-by (body.OtherConfirm x) e =
-      confirm-does (groupsIn t) (receive a time frame fresh expected verdict) (lookBy (decodeTable t) f) refl W x 0 _ time z (rw e)
-      (λ q v. absurd (other-confirm-shape (groupsIn t) frame x e .not-zero q))
-  frame-kind-by body.Malformed e =
-      confirm-does (groupsIn t) (receive a time frame fresh expected verdict) (lookBy (decodeTable t) f) refl W 1 0 _ time z (rw e) (λ q v. absurd (omega arith))
+  -- what a well-formed frame is to the rules
+  heard-by : (b : Body) → readBody gs frame ≡ b → eqb (viewOf b .sequence) 0 ≡ false → Heard gs frameCall (messageOf frame (viewOf b)) (verdict is 1)
+  unfolding messageOf commitIn view
+  heard-by (body.Commit g n) e w = record {
+    commit = λ z l. (record { token = n; frame = refl; reads = e; stored-as = refl }, commit-shape gs frame g n e .supported);
+    request = λ o z. absurd (omega arith);
+    other = λ z. rw e;
+    confirm = λ d z v. absurd (d refl);
+  }
+  heard-by (body.Unsupported g) e w = record { commit = λ z l. absurd (clash l refl); request = λ o z. absurd (omega arith); other = λ z. rw e; confirm = λ d z v. absurd (d refl) }
+  heard-by (body.TokenRequest g n) e w = record { commit = λ z l. absurd (omega arith); request = λ o z. rw e; other = λ z. absurd (z refl); confirm = λ d z v. absurd (d refl) }
+  heard-by (body.GroupRefusal g) e w = record { commit = λ z l. absurd (omega arith); request = λ o z. absurd (omega arith); other = λ z. rw e; confirm = λ d z v. absurd (d refl) }
+  heard-by (body.OtherCommit x) e w = record {
+    commit = λ z l. absurd (clash l refl);
+    request = λ o z. absurd (other-commit-shape gs frame x e .no-request z);
+    other = λ z. rw (e, ne-eqb x 76 z);
+    confirm = λ d z v. absurd (d refl);
+  }
+  heard-by (body.Confirm n) e w = record { commit = λ z l. absurd (clash l refl); request = λ o z. absurd (omega arith); other = λ z. rw e; confirm = λ d z v. is-verified n e v }
+  heard-by (body.OtherConfirm x) e w = record {
+    commit = λ z l. absurd (clash l refl);
+    request = λ o z. absurd (clash o refl);
+    other = λ z. rw e;
+    confirm = λ d z v. absurd (other-confirm-shape gs frame x e .not-zero z);
+  }
+  heard-by body.Malformed e w = absurd (clash refl w)
 
-  frame-kind : Does (groupsIn t) (receive a time frame fresh expected verdict) (lookBy (decodeTable t) f) (frameStep (decodeTable t) f a time frame fresh expected verdict)
-  unfolding frameStep
-  frame-kind = frame-kind-by (readBody (groupsIn t) frame) refl
+  heard : eqb (view gs frame .sequence) 0 ≡ false → Heard gs frameCall (message gs frame) (verdict is 1)
+  unfolding message view
+  heard w = heard-by (readBody gs frame) refl w
+
+frame-kind : (t a : List ℕ) (time : ℕ) (frame fresh expected : List ℕ) (verdict : ℕ) (f : Found) → Stocked (groupsIn t) (receive a time frame fresh expected verdict)
+    → eqb (view (groupsIn t) frame .sequence) 0 ≡ false → Whole (lookBy (decodeTable t) f) → State (lookBy (decodeTable t) f .run .state)
+    → Does (groupsIn t) (receive a time frame fresh expected verdict) (lookBy (decodeTable t) f) (frameStep (decodeTable t) f a time frame fresh expected verdict)
+unfolding frameStep
+frame-kind t a time frame fresh expected verdict f S w W z =
+    frame-does (termsOf (decodeTable t) f) (brings a time fresh expected (verdict is 1)) (receive a time frame fresh expected verdict) (lookBy (decodeTable t) f)
+    (message (groupsIn t) frame) refl refl refl W z (heard (groupsIn t) a time frame fresh expected verdict w) (λ e. S)
+
+-- a clock call brings no frame
+no-frame : (gs : List ℕ) (time : ℕ) → Heard gs (expire time) silence false
+no-frame gs time = record { commit = λ z l. absurd (clash l refl); request = λ o z. absurd (omega arith); other = λ z. refl; confirm = λ d z v. absurd (clash v refl) }
+
+clock-kind : (t : List ℕ) (time k : ℕ) → Whole (lookBy (decodeTable t) (found.At k)) → State (lookBy (decodeTable t) (found.At k) .run .state)
+    → Does (groupsIn t) (expire time) (lookBy (decodeTable t) (found.At k)) (clockStep (decodeTable t) k time)
+unfolding clockStep lookBy
+clock-kind t time k W z =
+    clock-does (termsOf (decodeTable t) (found.At k)) (brings (slot (decodeTable t) k .address) time [] noToken false) (expire time) (slot (decodeTable t) k) refl refl refl W z
+    (no-frame (groupsIn t) time)
 
 -- ---- how a call ends
 
@@ -244,6 +248,19 @@ said-done : (o : Step) (a : List ℕ) (r : Answer) → r ≡ said o a → isDone
 unfolding said
 said-done o a r e = rw e
 
+-- a step that is done was not refused
+step-done : (t : List ℕ) (f : Found) (o : Step) (a : List ℕ) → finishes t f o a .answer ≡ said o a → o .refused ≡ false
+unfolding finishes refused
+step-done t f o a e = go (o .refused) refl
+  where
+    go : (x : Bool) → o .refused ≡ x → x ≡ false
+    go true q = absurd (clash (said-done o a _ e) (rw q refl))
+    go false q = refl
+
+turn-done : (w : Turn) (g : Found → Step) (t a : List ℕ) (f : Found) → w ≡ Go f → turned w g t a .answer ≡ said (g f) a → g f .refused ≡ false
+unfolding turned
+turn-done w g t a f e q = step-done t f (g f) a (subst (λ (x : Turn). turned x g t a .answer ≡ said (g f) a) e q)
+
 refused-not : (c : Refusal) (t : List ℕ) (l : Left) → l ≡ refuse t c → (isDone (l .answer .outcome) ≡ false) × (l .table ≡ t)
 unfolding refused
 refused-not c t l e = (rw e, rw e)
@@ -273,12 +290,6 @@ nothing-done : (t : List ℕ) (time : ℕ) → (isDone (expiresBy found.Nothing 
 unfolding expiresBy noneDue
 nothing-done t time = (refl, refl)
 
-clock-kind : (t : List ℕ) (time k : ℕ) (p : Peer) → lookBy (decodeTable t) (found.At k) ≡ p → Whole p → State (p .run .state)
-    → Does (groupsIn t) (expire time) p (onExpired factory (slot (decodeTable t) k) time)
-unfolding lookBy
-clock-kind t time k p e W z =
-    subst (λ (q : Peer). Does (groupsIn t) (expire time) p (onExpired factory q time)) (sym e) (expired-does (groupsIn t) (expire time) p refl W time z refl)
-
 -- the clock call, by what it comes to
 module _ (t : List ℕ) (time : ℕ) (l : Left) (q : expires t time ≡ l) where
   clock-idles : isDone (l .answer .outcome) ≡ false → l .table ≡ t → Ends t (expire time)
@@ -295,7 +306,7 @@ expires-due : (t : List ℕ) (time : ℕ) (d : Found) → sound t ≡ true → d
 unfolding expires
 expires-due t time d s e = rw (s, e)
 
-expires-unsound : (t : List ℕ) (time : ℕ) → sound t ≡ false → expires t time ≡ refuse t why.Form
+expires-unsound : (t : List ℕ) (time : ℕ) → sound t ≡ false → expires t time ≡ refuse t why.Unsound
 unfolding expires
 expires-unsound t time s = rw s
 
@@ -303,14 +314,14 @@ module _ (L : Lawful) (t : List ℕ) (b : Bytes t) where
   -- a set up
   initialize-ends : (buffer own : List ℕ) (settings : Settings) → Bytes buffer → Octets 6 own → SettingsHanded settings → Ends t (initialize buffer own settings)
   unfolding done tableAfter initializes
-  initialize-ends buffer own settings bb ho hs = go (freshOk settings own (length buffer)) refl
+  initialize-ends buffer own settings bb ho hs = go (initialOk settings own (length buffer)) refl
     where
       fit : FitSettings settings own
       fit = record { count = hs .count; groups = hs .groups; group0 = hs .group 0; group1 = hs .group 1; threshold = hs .threshold; six = ho .many; bytes = ho .bytes }
 
-      go : (x : Bool) → freshOk settings own (length buffer) ≡ x → Ends t (initialize buffer own settings)
+      go : (x : Bool) → initialOk settings own (length buffer) ≡ x → Ends t (initialize buffer own settings)
       go true e = sets-up {buffer = buffer} {own = own} {settings = settings} (rw e (quiet-done own)) (rw e (quiet-frames own)) (rw (e, quiet-done own) (bytes-initial settings own buffer fit bb))
-          (λ a. rw (e, quiet-done own) (fresh-look _ a (λ k. ap (λ (T : Table). slot T k) (initial-decoded settings own buffer fit e) ∙ fresh-slot settings own (slotsFor (length buffer)) k)))
+          (λ a. rw (e, quiet-done own) (fresh-look _ a (λ k. ap (λ (T : Table). slot T k) (initial-decoded settings own buffer fit e) ∙ initial-slot settings own (slotsFor (length buffer)) k)))
       go false e = idles {c = initialize buffer own settings} (rw e (refused-done why.Settings)) (rw (e, refused-done why.Settings))
 
   initiate-ends : (a : List ℕ) (time : ℕ) (fresh : List ℕ) → Octets 6 a → time < 2 ^ 32 → Bytes fresh → Ends t (initiate a time fresh)
@@ -325,7 +336,7 @@ module _ (L : Lawful) (t : List ℕ) (b : Bytes t) where
           let G = L .initiate-good t a time fresh f b (ha .many) (ha .bytes) ht hf e in
           let s = entered-sound t a f (G .came) in
           steps a (startStep (decodeTable t) f a time fresh) a-start (said-done _ a _ (F .answer)) (made-of t a _ _ s F)
-          (λ W z. subst (λ (p : Peer). Does (groupsIn t) (initiate a time fresh) p (startStep (decodeTable t) f a time fresh)) (entered-look t a f (G .came)) (start-kind t a time fresh f s e))
+          (λ W z. subst (λ (p : Peer). Does (groupsIn t) (initiate a time fresh) p (startStep (decodeTable t) f a time fresh)) (entered-look t a f (G .came)) (start-kind t a time fresh f s e (turn-done (startTurn (entry t a) t fresh) (λ x. startStep (decodeTable t) x a time fresh) t a f e (F .answer))))
 
   kill-ends : (a : List ℕ) → Octets 6 a → Ends t (kill a)
   unfolding done tableAfter kills
@@ -349,33 +360,35 @@ module _ (L : Lawful) (t : List ℕ) (b : Bytes t) where
           let G = L .receive-good t a time frame fresh expected verdict f b (ha .many) (ha .bytes) ht hr hf he hv e in
           let s = entered-sound t a f (G .came) in
           let q = entered-look t a f (G .came) in
-          let S = all-stocked t s (receive a time frame fresh expected verdict) (frame-admits (entry t a) t frame fresh expected verdict f e) in
+          let w = frame-admits (entry t a) t frame fresh expected verdict f e in
+          let S = all-stocked t s (receive a time frame fresh expected verdict) (w .0) in
           steps a (frameStep (decodeTable t) f a time frame fresh expected verdict) a-frame (said-done _ a _ (F .answer)) (made-of t a _ _ s F)
           (λ W z. subst (λ (p : Peer). Does (groupsIn t) (receive a time frame fresh expected verdict) p (frameStep (decodeTable t) f a time frame fresh expected verdict)) q
-          (frame-kind t a time frame fresh expected verdict f S (subst Whole (sym q) W) (subst (λ (p : Peer). State (p .run .state)) (sym q) z)))
+          (frame-kind t a time frame fresh expected verdict f S (w .1) (subst Whole (sym q) W) (subst (λ (p : Peer). State (p .run .state)) (sym q) z)))
 
   due-ends : (time k : ℕ) → time < 2 ^ 32 → sound t ≡ true → dueSlot (decodeTable t) time ≡ found.At k → Ends t (expire time)
   unfolding expiresBy
   due-ends time k ht s e =
-      go (finish-ends t (slot (decodeTable t) k .address) b (six .0) (six .1) (found.At k) (onExpired factory (slot (decodeTable t) k) time) G)
+      go (finish-ends t (slot (decodeTable t) k .address) b (six .0) (six .1) (found.At k) (clockStep (decodeTable t) k time) G)
     where
       six : (length (slot (decodeTable t) k .address) ≡ 6) × Bytes (slot (decodeTable t) k .address)
       six = L .expire-address t time k b s e
 
-      G : Good t (slot (decodeTable t) k .address) (found.At k) (onExpired factory (slot (decodeTable t) k) time)
+      G : Good t (slot (decodeTable t) k .address) (found.At k) (clockStep (decodeTable t) k time)
       G = L .expire-good t time k b ht s e
 
       at : lookBy (decodeTable t) (found.At k) ≡ look (decodeTable t) (slot (decodeTable t) k .address)
       at = entered-look t (slot (decodeTable t) k .address) (found.At k) (G .came)
 
-      go : (finishes t (found.At k) (onExpired factory (slot (decodeTable t) k) time) (slot (decodeTable t) k .address) ≡ refuse t why.Full)
-          ⊎ Finished t (slot (decodeTable t) k .address) (onExpired factory (slot (decodeTable t) k) time)
-          (finishes t (found.At k) (onExpired factory (slot (decodeTable t) k) time) (slot (decodeTable t) k .address))
+      go : (finishes t (found.At k) (clockStep (decodeTable t) k time) (slot (decodeTable t) k .address) ≡ refuse t why.Full)
+          ⊎ Finished t (slot (decodeTable t) k .address) (clockStep (decodeTable t) k time)
+          (finishes t (found.At k) (clockStep (decodeTable t) k time) (slot (decodeTable t) k .address))
           → Ends t (expire time)
       go (inl q) = let r = refused-not why.Full t _ q in clock-idles t time _ (expires-due t time (found.At k) s e) (r .0) (r .1)
       go (inr F) =
-          clock-steps t time _ (expires-due t time (found.At k) s e) (slot (decodeTable t) k .address) (onExpired factory (slot (decodeTable t) k) time)
-          (said-done _ _ _ (F .answer)) (made-of t _ _ _ s F) (λ W z. clock-kind t time k _ at W z)
+          clock-steps t time _ (expires-due t time (found.At k) s e) (slot (decodeTable t) k .address) (clockStep (decodeTable t) k time)
+          (said-done _ _ _ (F .answer)) (made-of t _ _ _ s F) (λ W z. subst (λ (p : Peer). Does (groupsIn t) (expire time) p (clockStep (decodeTable t) k time)) at
+          (clock-kind t time k (subst Whole (sym at) W) (subst (λ (p : Peer). State (p .run .state)) (sym at) z)))
 
   expire-ends : (time : ℕ) → time < 2 ^ 32 → Ends t (expire time)
   expire-ends time ht = go (sound t) refl
@@ -386,7 +399,7 @@ module _ (L : Lawful) (t : List ℕ) (b : Bytes t) where
 
       go : (x : Bool) → sound t ≡ x → Ends t (expire time)
       go true s = on s (dueSlot (decodeTable t) time) refl
-      go false s = clock-idles t time _ (expires-unsound t time s) (refused-done why.Form) refl
+      go false s = clock-idles t time _ (expires-unsound t time s) (refused-done why.Unsound) refl
 
   pub call-ends : {c : Call} → CallHanded c → Ends t c
   call-ends (an-initialize bb ho hs) = initialize-ends _ _ _ bb ho hs

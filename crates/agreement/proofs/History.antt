@@ -1,35 +1,31 @@
 -- After every list of calls each printer's record of each address says what its story says, and no run has more than six repeats: no premise is asked.
 use mathlib.Core.Path.{_≡_, refl, sym, ap, _∙_, subst}
-use mathlib.Core.Bool.{Bool, true, false, not, _&&_, _||_}
-use mathlib.Core.List.{List, [], _∷_}
-use Prim.Native.Nat.{ℕ, _<_}
-use native.Mathlib.Omega.{arith}
+use mathlib.Core.Bool.{Bool, true, false, not, _&&_}
+use mathlib.Core.List.{List, []}
+use Prim.Native.Nat.{ℕ}
 use lib.Dec.{eqb, lit<}
-use lib.ListN.{getD}
 use borrow.Author.Tests.{eqb-true}
 use Rattle.protocol.specs.Model.{Side, A, B}
-use Rattle.protocol.specs.Repeats.{AtMost, none}
-use Rattle.octets.specs.Scan.{if_then_else_, firstBelow}
+use Rattle.protocol.specs.Repeats.{none}
+use Rattle.octets.specs.Scan.{firstBelow}
 use Rattle.octets.specs.Octets.{Bytes, num, sameAddress}
 use Rattle.record.specs.declared.Peer.{Peer}
-use Rattle.record.specs.declared.Link.{Link}
-use Rattle.record.specs.Layout.{noPeer, noRun, noLink}
-use Rattle.table.specs.Table.{Table, decodeTable, peersOf, slot, slots, inUse, holds, finds, look, lookBy}
-use Rattle.acts.specs.declared.Step.{Step}
-use Rattle.turn.specs.declared.Answer.{Answer}
-use Rattle.turn.specs.Turn.{said}
-use Rattle.engine.specs.Calls.{killStep}
-use Rattle.agreement.specs.Calls.{Call, initialize, initiate, kill, receive, expire, Entry, Handed, AllHanded, none, more, left, done, tableAfter, mine, tableOf}
-use Rattle.agreement.specs.Story.{Story, nothingYet, unlinked, answered, cleared, isAbout, toldBy, storyAfter, storyOf, groupsIn}
-use Rattle.agreement.specs.Statement.{Says, no-link}
-use Rattle.agreement.proofs.Rules.{Does}
+use Rattle.record.specs.Layout.{noPeer}
+use Rattle.table.specs.Table.{Table, decodeTable, peersOf, slot, slots, inUse, belongs, finds, look, lookBy}
+use Rattle.rules.specs.Book.{Step}
+use Rattle.answers.specs.declared.Answer.{Answer}
+use Rattle.answers.specs.Answers.{said}
+use Rattle.calls.specs.Calls.{killStep}
+use Rattle.agreement.specs.Calls.{Call, initialize, initiate, kill, receive, expire, Entry, AllHanded, none, more, left, done, tableAfter, mine, tableOf}
+use Rattle.agreement.specs.Story.{Story, nothingYet, answered, isAbout, toldBy, storyAfter, storyOf, groupsIn}
+use Rattle.agreement.specs.Statement.{no-link}
 use Rattle.agreement.proofs.Shows.{Shows, no-run, shows-state, shows-whole, shows-kept, shows-cleared}
-use Rattle.agreement.proofs.Engine.{Lawful, Told, a-start, a-frame, a-clock, Made, Ends, idles, sets-up, frees, steps, call-ends, fresh-look}
+use Rattle.agreement.proofs.Engine.{Lawful, Told, a-start, a-frame, a-clock, Ends, idles, sets-up, frees, steps, call-ends, fresh-look}
 
 -- ---- addresses are the same where their numbers are
 
 pub look-same-address : (T : Table) (a b : List ℕ) → sameAddress a b ≡ true → look T b ≡ look T a
-unfolding look finds holds sameAddress
+unfolding look finds belongs sameAddress
 look-same-address T a b e =
     ap (λ (n : ℕ). lookBy T (firstBelow (λ k. inUse (slot T k) && eqb (num (slot T k .address)) n) (slots T))) (sym (eqb-true _ _ e))
 

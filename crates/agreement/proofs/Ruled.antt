@@ -1,17 +1,16 @@
--- Each rule's steps are of the kinds that the list of calls tells apart.
-use mathlib.Core.Path.{_≡_, refl, sym, ap, _∙_, subst}
+-- Each act's step is of the kinds that the list of calls tells apart: a clause for each row of what its ladders have tested.
+use mathlib.Core.Path.{_≡_, refl, sym, ap, subst}
 use mathlib.Core.Logic.{_⊎_, inl, inr}
-use mathlib.Core.Bool.{Bool, true, false, not, _&&_, _||_}
-use mathlib.Core.List.{List, [], _∷_}
+use mathlib.Core.Bool.{Bool, true, false, not}
+use mathlib.Core.List.{List}
 use Prim.Native.Nat.{ℕ, _+_, _≤_, _<_}
 use native.Mathlib.Omega.{arith}
-use lib.Dec.{eqb, leb, ltb}
-use lib.ListN.{length, take, getD}
-use borrow.Author.Tests.{eqb-true, eq-eqb, ne-eqb, eqb-false, ltb-true, ltb-false}
+use lib.Dec.{eqb}
+use lib.ListN.{length, getD}
+use borrow.Author.Tests.{eqb-true, ne-eqb, eqb-false, ltb-false}
 use Rattle.octets.specs.Scan.{if_then_else_}
-use Rattle.octets.specs.Octets.{higher, same}
-use Rattle.octets.proofs.Scan.{clash, and-left}
-use Rattle.groups.specs.Groups.{stored, commitLength, freshFor, freshAt, listed, firstLeft, mark, indexOf}
+use Rattle.octets.proofs.Scan.{clash}
+use Rattle.groups.specs.Groups.{freshFor, freshAt, listed, firstLeft}
 use Rattle.groups.specs.declared.Choice.{Choice}
 use Rattle.groups.specs.declared.Choice.the-variants as choice
 use Rattle.groups.proofs.Laws.{chosen}
@@ -19,26 +18,18 @@ use Rattle.record.specs.declared.Run.{Run}
 use Rattle.record.specs.declared.Link.{Link}
 use Rattle.record.specs.declared.Peer.{Peer}
 use Rattle.record.specs.Layout.{noRun, noLink, noPeer}
-use Rattle.acts.specs.declared.Frame.{Frame}
-use Rattle.acts.specs.declared.Frames.{Frames}
-use Rattle.acts.specs.declared.Frames.the-variants.{None, One, Two}
-use Rattle.acts.specs.declared.Step.{Step}
-use Rattle.acts.specs.Acts.{_is_, _isnt_, _above_, holds, factory, commitFrame, tokenRequestFrame, groupRefusalFrame, confirmFrame, withRun, withLink, counting, setT0, sending, answering, settled, abandoning, retransmitting, dropping, supersede, formedRun, forming, linkOfRun, accepting, endingLink, t0Due}
-use Rattle.machine.specs.declared.Received.{Received}
-use Rattle.machine.specs.Rules.{startedRun, onStart, linkedWith, onCommitIdle, replyingToken, switched, switchingTo, switching, onCommitCommitted, onConfirmCommitted, onT0Committed, onCommitConfirmed, onConfirmConfirmed, onT0Confirmed, heardAgain, onConfirmLinked, onT1, onCommit, onConfirm, onT0, onExpired}
+use Rattle.rules.specs.declared.Frames.the-variants.{One}
+use Rattle.rules.specs.declared.Message.{Message}
+use Rattle.rules.specs.declared.Act.{Act}
+use Rattle.rules.specs.declared.Act.the-variants.{Drop, RefuseGroup, AskToken, NoSlot, AnswerCommit, ConfirmCommit, ReplyToken, SwitchGroup, RepeatCommit, RepeatRefusal, ResendBoth, ConfirmAgain, GiveUp, Accept, HearAgain, HearLast, EndLink, Begin}
+use Rattle.rules.specs.Parts.{counting, withToken, switched, heardAgain, withRun, withLink}
+use Rattle.rules.specs.Book.{_is_, _isnt_, _above_, holds, Timing, Terms, silence, inCommitted, inConfirmed, hasLink, unsupported, linked, lacksToken, wrongToken, equalsFresh, equalsOwn, unverified, outranks, noSlot, spent, linkSpent, t0Due, setT0, sending, answering, refusing, settled, abandoning, endingLink, retransmitting, dropping, formedRun, forming, startedRun, starting, switchingTo, switching, linkOfRun, accepting, answeringCommit, confirmingCommit, replyingToken, repeatingCommit, repeatingRefusal, confirmingAgain, resendingBoth, hearingLast, hearingAgain, startAct, commitIdle, commitCommitted, commitConfirmed, confirmCommitted, confirmConfirmed, confirmLinked, clockAct, commitAct, confirmAct, frameAct, perform, onFrame, onClock, onStart}
+use Rattle.rules.specs.Book as book
+use Rattle.rules.specs.Asked.{NoRun, Asked, refuse-group, ask-token, no-slot, begin, answer-commit, confirm-commit, reply-token, switch-group, repeat-commit, repeat-refusal, resend-both, confirm-again, give-up, accept, hear-again, hear-last, end-link, drop}
+use Rattle.rules.proofs.Ladders.{frame-asked, clock-asked}
 use Rattle.agreement.specs.Calls.{Call}
-use Rattle.agreement.specs.Story.{isStart, isFrame, frameOf, stockOf, getsTokenRequest}
+use Rattle.agreement.specs.Story.{isStart, isFrame, stockOf, getsTokenRequest}
 use Rattle.agreement.proofs.Rules.{either, Whole, SameRun, SameLink, Afresh, Committed, Confirmed, Hears, Verified, Does, quiet, informs, starts, switches, forms-fresh, forms-own, repeats, replies, repeats-both, repeats-confirm, accepts, abandons, ends, answers}
-
--- ---- tests
-
-pub not-true : (b : Bool) → not b ≡ true → b ≡ false
-not-true true e = sym e
-not-true false e = refl
-
-pub not-false : (b : Bool) → not b ≡ false → b ≡ true
-not-false true e = refl
-not-false false e = sym e
 
 -- the run state is 0, 1 or 2
 pub data State (n : ℕ) : Type 0 where
@@ -46,26 +37,109 @@ pub data State (n : ℕ) : Type 0 where
   committed : n ≡ 1 → State n
   confirmed : n ≡ 2 → State n
 
-pub neither : (n : ℕ) → State n → eqb n 1 ≡ false → eqb n 2 ≡ false → n ≡ 0
-neither n (idle e) f g = e
-neither n (committed e) f g = absurd (eqb-false n 1 f e)
-neither n (confirmed e) f g = absurd (eqb-false n 2 g e)
+without : (p : Peer) → State (p .run .state) → NoRun p → p .run .state ≡ 0
+without p (idle e) r = e
+without p (committed e) r = absurd (r .not-committed e)
+without p (confirmed e) r = absurd (r .not-confirmed e)
 
-pub not-idle : (n : ℕ) → State n → eqb n 0 ≡ false → eqb n 2 ≡ false → n ≡ 1
-not-idle n (idle e) f g = absurd (eqb-false n 0 f e)
-not-idle n (committed e) f g = e
-not-idle n (confirmed e) f g = absurd (eqb-false n 2 g e)
+unconfirmed : {n : ℕ} → State n → (n ≡ 2 → ⊥) → (n ≡ 0) ⊎ (n ≡ 1)
+unconfirmed (idle e) d = inl e
+unconfirmed (committed e) d = inr e
+unconfirmed (confirmed e) d = absurd (d e)
 
--- ---- what a Commit is to the rules, and what the stock has
+states : {n : ℕ} → State n → (n ≡ 0) ⊎ ((n ≡ 1) ⊎ (n ≡ 2))
+states (idle e) = inl e
+states (committed e) = inr (inl e)
+states (confirmed e) = inr (inr e)
 
-pub record Heard (gs : List ℕ) (c : Call) (m : Received) : Type 0 where
+-- ---- what a message is to the rules, with this verdict, and what the stock has
+
+pub record Heard (gs : List ℕ) (c : Call) (m : Message) (verdict : Bool) : Type 0 where
   pub commit : m .status ≡ 0 → m .listed ≡ true → Hears gs c (m .group) (m .commit) × (listed gs (m .group) ≡ true)
-  pub request : m .status ≡ 76 → getsTokenRequest gs c ≡ true
+  pub request : (m .sequence is 1) ≡ true → m .status ≡ 76 → getsTokenRequest gs c ≡ true
   pub other : (m .status ≡ 76 → ⊥) → getsTokenRequest gs c ≡ false
+  pub confirm : (m .sequence ≡ 1 → ⊥) → m .status ≡ 0 → verdict ≡ true → Verified gs c
 
 pub record Stocked (gs : List ℕ) (c : Call) : Type 0 where
   pub group : (g : ℕ) → listed gs g ≡ true → Afresh gs c g (freshFor gs (stockOf c) g)
   pub place : (i g : ℕ) → i < length gs → getD gs i 0 ≡ g → Afresh gs c g (freshAt (stockOf c) i)
+
+-- ---- which acts a Commit names, and which every other message: a token is stored and a commit used afresh for a Commit alone, and none begins
+
+unfoldable fits : Bool → Act → Bool
+fits commit Drop = true
+fits commit RefuseGroup = true
+fits commit AskToken = true
+fits commit NoSlot = true
+fits commit AnswerCommit = commit
+fits commit ConfirmCommit = true
+fits commit ReplyToken = commit
+fits commit SwitchGroup = commit
+fits commit RepeatCommit = true
+fits commit RepeatRefusal = true
+fits commit ResendBoth = true
+fits commit ConfirmAgain = true
+fits commit GiveUp = true
+fits commit Accept = true
+fits commit HearAgain = true
+fits commit HearLast = true
+fits commit EndLink = true
+fits commit Begin = false
+
+record Fits (commit : Bool) (a : Act) : Type 0 where
+  pub yes : fits commit a ≡ true
+
+ok : {x : Bool} (a : Act) → fits x a ≡ true → Fits x a
+ok a e = record { yes = e }
+
+both : {x : Bool} (b : Bool) {y z : Act} → Fits x y → Fits x z → Fits x (if b then y else z)
+both true f g = f
+both false f g = g
+
+module _ (t : Terms) (c : book.Call) (p : Peer) (m : Message) where
+  idle-fits : Fits true (commitIdle t c p m)
+  unfolding commitIdle fits
+  idle-fits =
+      let d : Fits true Drop = ok Drop refl in
+      both (m .status isnt 0) d (both (unsupported m) (ok RefuseGroup refl) (both (linked p m) d (both (lacksToken t m) (ok AskToken refl)
+      (both (wrongToken t c m) d (both (equalsFresh t c m) d (both (unverified c) d (both (noSlot t) (ok NoSlot refl) (ok AnswerCommit refl))))))))
+
+  committed-fits : Fits true (commitCommitted t c p m)
+  unfolding commitCommitted fits
+  committed-fits =
+      let d : Fits true Drop = ok Drop refl in
+      both (m .status is 76) (both (m .group is p .run .group) (ok ReplyToken refl) d)
+      (both (m .status is 77) (both (m .group is p .run .group) (ok SwitchGroup refl) d) (both (m .status isnt 0) d (both (unsupported m) (ok RepeatRefusal refl)
+      (both (m .group isnt p .run .group) (both (outranks t c) (ok RepeatCommit refl) (both (unverified c) d (both (equalsFresh t c m) d (ok AnswerCommit refl))))
+      (both (equalsOwn p m) d (both (unverified c) d (ok ConfirmCommit refl)))))))
+
+  commit-fits : Fits true (commitAct t c p m)
+  unfolding commitAct commitConfirmed fits
+  commit-fits =
+      let d : Fits true Drop = ok Drop refl in
+      both (inCommitted p) committed-fits
+      (both (inConfirmed p) (both (m .status isnt 0) d (both (spent t p) (ok GiveUp refl) (both (m .group isnt p .run .group) d (ok ResendBoth refl)))) idle-fits)
+
+  confirm-fits : Fits false (confirmAct t c p m)
+  unfolding confirmAct confirmCommitted confirmConfirmed confirmLinked fits
+  confirm-fits =
+      let d : Fits false Drop = ok Drop refl in
+      both (inCommitted p) (both (m .status isnt 0) d (ok RepeatCommit refl))
+      (both (inConfirmed p) (both (m .status isnt 0) d (both (unverified c) d (ok Accept refl)))
+      (both (hasLink p) (both (m .status isnt 0) d (both (linkSpent t p) (ok EndLink refl) (both (not (m .counter above p .link .rc)) d (both (unverified c) d
+      (both (m .counter is 65535) (ok HearLast refl) (ok HearAgain refl)))))) d))
+
+  frame-fits : Fits (m .sequence is 1) (frameAct t c p m)
+  unfolding frameAct
+  frame-fits = go (m .sequence is 1)
+    where
+      go : (b : Bool) → Fits b (if b then commitAct t c p m else confirmAct t c p m)
+      go true = commit-fits
+      go false = confirm-fits
+
+clock-fits : (p : Peer) (time : ℕ) → Fits false (clockAct p time)
+unfolding clockAct fits
+clock-fits p time = both (holds (t0Due p time)) (both (inConfirmed p) (ok ConfirmAgain refl) (ok RepeatCommit refl)) (ok EndLink refl)
 
 -- ---- the acts
 
@@ -83,199 +157,162 @@ pub no-link-finished : (l : Link) → l ≡ noLink → l .finished ≡ 0
 unfolding noLink
 no-link-finished l e = ap (λ (x : Link). x .finished) e
 
-later-run : (p : Peer) (time : ℕ) → eqb (p .run .state) 0 ≡ false → SameRun p (withRun p (setT0 factory (p .run) time))
+later-run : (τ : Timing) (p : Peer) (time : ℕ) → eqb (p .run .state) 0 ≡ false → SameRun p (withRun p (setT0 τ (p .run) time))
 unfolding withRun setT0
-later-run p time f =
+later-run τ p time f =
     record { free = λ e. absurd (eqb-false _ _ f (no-run-state (p .run) e)); state = refl; group = refl; own = refl; peer = refl; sync = refl; sc = refl }
 
-later-link : (p : Peer) (time : ℕ) → SameLink p (withRun p (setT0 factory (p .run) time))
+later-link : (τ : Timing) (p : Peer) (time : ℕ) → SameLink p (withRun p (setT0 τ (p .run) time))
 unfolding withRun
-later-link p time = record { free = λ e. e; finished = refl; superseded = refl; group = refl; own = refl; peer = refl }
+later-link τ p time = record { free = λ e. e; finished = refl; superseded = refl; group = refl; own = refl; peer = refl }
 
-module _ (gs : List ℕ) (c : Call) (p : Peer) (n : isStart c ≡ false) where
-  dropped : (time : ℕ) → Does gs c p (dropping factory p time)
+heard-link : (p : Peer) (rc sync : ℕ) → (p .link .finished ≡ 0 → ⊥) → SameLink p (withLink p (heardAgain (p .link) rc sync))
+unfolding withLink heardAgain
+heard-link p rc sync d = record { free = λ e. absurd (d (no-link-finished (p .link) e)); finished = refl; superseded = refl; group = refl; own = refl; peer = refl }
+
+heard-run : (p : Peer) (rc sync : ℕ) → SameRun p (withLink p (heardAgain (p .link) rc sync))
+unfolding withLink
+heard-run p rc sync = record { free = λ e. e; state = refl; group = refl; own = refl; peer = refl; sync = refl; sc = refl }
+
+module _ (gs : List ℕ) (c : Call) (τ : Timing) (p : Peer) (n : isStart c ≡ false) (five : τ .limit ≡ 5) (W : Whole p) where
+  dropped : (time : ℕ) → Does gs c p (dropping τ p time)
   unfolding dropping
   dropped time =
-      quiet n (either (SameRun p) (p .run .state is 0) (λ e. same-run p) (λ e. later-run p time e))
-      (either (SameLink p) (p .run .state is 0) (λ e. same-link p) (λ e. later-link p time))
+      quiet n (either (SameRun p) (p .run .state is 0) (λ e. same-run p) (λ e. later-run τ p time e))
+      (either (SameLink p) (p .run .state is 0) (λ e. same-link p) (λ e. later-link τ p time))
 
-  module _ (W : Whole p) where
-    abandoned : Does gs c p (abandoning p)
-    unfolding abandoning settled withRun noRun noPeer
-    abandoned =
-        abandons n (either (λ (q : Peer). q .run ≡ noRun) (p .link .finished is 0) (λ e. refl) (λ e. refl))
-        (either (λ (q : Peer). q .link ≡ p .link) (p .link .finished is 0) (λ e. sym (W .link (eqb-true _ _ e))) (λ e. refl))
-
-    ended : Does gs c p (endingLink p)
-    unfolding endingLink settled withLink noLink noPeer
-    ended =
-        ends n (either (λ (q : Peer). q .run ≡ p .run) (p .run .state is 0) (λ e. sym (W .run (eqb-true _ _ e))) (λ e. refl))
-        (either (λ (q : Peer). q .link ≡ noLink) (p .run .state is 0) (λ e. refl) (λ e. refl))
-
-    -- Repeat in Committed
-    retransmitted : (x g time : ℕ) → getsTokenRequest gs c ≡ false → p .run .state ≡ 1
-        → Does gs c p (retransmitting factory p (p .run .sc) (One (record { sequence = 1; status = x; group = g; counter = 0 })) time)
-    unfolding retransmitting sending withRun setT0 counting
-    retransmitted x g time k s =
-        either (Does gs c p) (p .run .sync above 5) (λ e. abandoned)
-        (λ e. repeats n k s (ltb-false 5 _ e) (record { state = s; sync = refl; group = refl; own = refl }) refl)
-
-    -- Repeat in Confirmed
-    retransmitted-confirm : (time : ℕ) → getsTokenRequest gs c ≡ false → p .run .state ≡ 2 → Does gs c p (onT0Confirmed factory p time)
-    unfolding onT0Confirmed retransmitting sending withRun setT0 counting
-    retransmitted-confirm time k s =
-        either (Does gs c p) (p .run .sync above 5) (λ e. abandoned)
-        (λ e. repeats-confirm n k s (ltb-false 5 _ e) (record { state = s; sync = refl; sc = refl; group = refl; own = refl; peer = refl }) refl)
+  denied : Does gs c p (refusing p)
+  unfolding refusing
+  denied = quiet n (same-run p) (same-link p)
 
   informed : (x g : ℕ) → p .run .state ≡ 0 → eqb x 0 ≡ false → Does gs c p (answering p (One (record { sequence = 1; status = x; group = g; counter = 0 })))
   unfolding answering
   informed x g s k = informs n s k
 
+  abandoned : Does gs c p (abandoning p)
+  unfolding abandoning settled withRun noRun noPeer
+  abandoned =
+      abandons n (either (λ (q : Peer). q .run ≡ noRun) (p .link .finished is 0) (λ e. refl) (λ e. refl))
+      (either (λ (q : Peer). q .link ≡ p .link) (p .link .finished is 0) (λ e. sym (W .link (eqb-true _ _ e))) (λ e. refl))
+
+  ended : Does gs c p (endingLink p)
+  unfolding endingLink settled withLink noLink noPeer
+  ended =
+      ends n (either (λ (q : Peer). q .run ≡ p .run) (p .run .state is 0) (λ e. sym (W .run (eqb-true _ _ e))) (λ e. refl))
+      (either (λ (q : Peer). q .link ≡ noLink) (p .run .state is 0) (λ e. refl) (λ e. refl))
+
+  low : (x : ℕ) → x ≤ τ .limit → x ≤ 5
+  low x l = omega arith
+
+  -- Repeat in Committed, and in Confirmed
+  retransmitted : (x g time : ℕ) → getsTokenRequest gs c ≡ false → p .run .state ≡ 1
+      → Does gs c p (retransmitting τ p (p .run .sc) (One (record { sequence = 1; status = x; group = g; counter = 0 })) time)
+  unfolding retransmitting sending withRun setT0 counting
+  retransmitted x g time k s =
+      either (Does gs c p) (p .run .sync above τ .limit) (λ e. abandoned)
+      (λ e. repeats n k s (low _ (ltb-false _ _ e)) (record { state = s; sync = refl; group = refl; own = refl }) refl)
+
+  confirmed-again : (time : ℕ) → getsTokenRequest gs c ≡ false → p .run .state ≡ 2 → Does gs c p (confirmingAgain τ p time)
+  unfolding confirmingAgain retransmitting sending withRun setT0 counting
+  confirmed-again time k s =
+      either (Does gs c p) (p .run .sync above τ .limit) (λ e. abandoned)
+      (λ e. repeats-confirm n k s (low _ (ltb-false _ _ e)) (record { state = s; sync = refl; sc = refl; group = refl; own = refl; peer = refl }) refl)
+
+  resent : (time : ℕ) → getsTokenRequest gs c ≡ false → p .run .state ≡ 2 → p .run .sync ≤ τ .limit → Does gs c p (resendingBoth τ p time)
+  unfolding resendingBoth sending withRun setT0 counting
+  resent time k s l = repeats-both n k s (low _ l) (record { state = s; sync = refl; sc = refl; group = refl; own = refl; peer = refl }) refl
+
   -- Form
-  formed-fresh : (address : List ℕ) (g : ℕ) (own theirs : List ℕ) (time : ℕ) → (p .run .state ≡ 0) ⊎ (p .run .state ≡ 1) → Afresh gs c g own → Hears gs c g theirs
-      → Does gs c p (forming factory p address g own theirs (Two (commitFrame g) (confirmFrame 1)) g time)
-  unfolding forming formedRun setT0
-  formed-fresh address g own theirs time s f k = forms-fresh n s f k (record { state = refl; sync = refl; sc = refl; group = refl; own = refl; peer = refl }) refl
+  formed-fresh : (address : List ℕ) (m : Message) (own : List ℕ) (time : ℕ) → (p .run .state ≡ 0) ⊎ (p .run .state ≡ 1) → Afresh gs c (m .group) own
+      → Hears gs c (m .group) (m .commit) → Does gs c p (answeringCommit τ p address m own time)
+  unfolding answeringCommit forming formedRun setT0
+  formed-fresh address m own time s f k = forms-fresh n s f k (record { state = refl; sync = refl; sc = refl; group = refl; own = refl; peer = refl }) refl
 
-  formed-own : (address : List ℕ) (g : ℕ) (theirs : List ℕ) (time : ℕ) → p .run .state ≡ 1 → g ≡ p .run .group → Hears gs c g theirs
-      → Does gs c p (forming factory p address g (p .run .own) theirs (One (confirmFrame 1)) 0 time)
-  unfolding forming formedRun setT0
-  formed-own address g theirs time s e k =
-      forms-own n s (subst (λ (x : ℕ). Hears gs c x theirs) e k) (record { state = refl; sync = refl; sc = refl; group = e; own = refl; peer = refl }) refl
+  formed-own : (address : List ℕ) (m : Message) (time : ℕ) → p .run .state ≡ 1 → m .group ≡ p .run .group → Hears gs c (m .group) (m .commit)
+      → Does gs c p (confirmingCommit τ p address m time)
+  unfolding confirmingCommit forming formedRun setT0
+  formed-own address m time s e k =
+      forms-own n s (subst (λ (x : ℕ). Hears gs c x (m .commit)) e k) (record { state = refl; sync = refl; sc = refl; group = e; own = refl; peer = refl }) refl
 
-  -- ---- the rules
+  replied : (m : Message) (time : ℕ) → p .run .state ≡ 1 → getsTokenRequest gs c ≡ true → Does gs c p (replyingToken τ p m time)
+  unfolding replyingToken sending withRun setT0 withToken
+  replied m time s k = replies n k s (record { state = s; sync = refl; group = refl; own = refl }) refl
 
-  commit-idle : (address : List ℕ) (m : Received) (crowded entitled verified : Bool) (time : ℕ) → p .run .state ≡ 0 → Heard gs c m → Stocked gs c
-      → Does gs c p (onCommitIdle factory p address m (freshFor gs (stockOf c) (m .group)) crowded entitled verified time)
-  unfolding onCommitIdle holds
-  commit-idle address m crowded entitled verified time s H S =
-      let d = dropped time in
-      either (Does gs c p) (m .status isnt 0) (λ e. d)
-      (λ zero. either (Does gs c p) (not (m .listed)) (λ e. informed 77 (m .group) s refl)
-      (λ here. either (Does gs c p) (linkedWith (p .link) m) (λ e. d)
-      (λ e. either (Does gs c p) (crowded && (m .toklen is 0)) (λ e. informed 76 (m .group) s refl)
-      (λ e. either (Does gs c p) (crowded && not entitled) (λ e. d)
-      (λ e. either (Does gs c p) (same (m .commit) (freshFor gs (stockOf c) (m .group))) (λ e. d)
-      (λ e. either (Does gs c p) (not verified) (λ e. d)
-      (λ e. let k = H .commit (eqb-true _ _ (not-false _ zero)) (not-false _ here) in
-      formed-fresh address (m .group) _ (m .commit) time (inl s) (S .group (m .group) (k .1)) (k .0))))))))
+  switched-to : (rejected : ℕ) (k : Choice) (time : ℕ) → firstLeft gs 0 rejected ≡ k → p .run .state ≡ 1 → Stocked gs c
+      → Does gs c p (switchingTo τ p rejected k (stockOf c) time)
+  unfolding switchingTo sending withRun setT0 switched
+  switched-to rejected (choice.Group i g) time e s S =
+      let k = chosen gs rejected i g e in switches n s (S .place i g (k .0) (k .1)) (record { state = s; sync = refl; group = refl; own = refl }) refl
+  switched-to rejected choice.None time e s S = abandoned
 
-  module _ (W : Whole p) (s : p .run .state ≡ 1) (m : Received) (H : Heard gs c m) (S : Stocked gs c) (time : ℕ) where
-    replied : m .status ≡ 76 → Does gs c p (replyingToken factory p m time)
-    unfolding replyingToken sending withRun setT0
-    replied e = replies n (H .request e) s (record { state = s; sync = refl; group = refl; own = refl }) refl
+  switched-over : (time : ℕ) → p .run .state ≡ 1 → Stocked gs c → Does gs c p (switching τ p gs (stockOf c) time)
+  unfolding switching
+  switched-over time s S = switched-to _ _ time refl s S
 
-    switched-to : (rejected : ℕ) (k : Choice) → firstLeft gs 0 rejected ≡ k → Does gs c p (switchingTo factory p rejected k (stockOf c) time)
-    unfolding switchingTo sending withRun setT0 switched
-    switched-to rejected (choice.Group i g) e =
-        let k = chosen gs rejected i g e in switches n s (S .place i g (k .0) (k .1)) (record { state = s; sync = refl; group = refl; own = refl }) refl
-    switched-to rejected choice.None e = abandoned W
+  accepted : (counter time : ℕ) → p .run .state ≡ 2 → Verified gs c → Does gs c p (accepting p counter time)
+  unfolding accepting linkOfRun
+  accepted counter time s v = accepts n s v refl refl refl refl refl refl
 
-    switched-over : Does gs c p (switching factory p gs (stockOf c) time)
-    unfolding switching
-    switched-over = switched-to _ _ refl
+  -- a link's Confirm
+  heard-last : (rc : ℕ) → (p .link .finished ≡ 0 → ⊥) → Does gs c p (hearingLast p rc)
+  unfolding hearingLast answering
+  heard-last rc d = quiet n (heard-run p rc (p .link .sync)) (heard-link p rc (p .link .sync) d)
 
-    commit-committed : (own : List ℕ) (verified : Bool) → Does gs c p (onCommitCommitted factory p own m gs (stockOf c) verified time)
-    unfolding onCommitCommitted holds
-    commit-committed own verified =
-        let d = dropped time in
-        either (Does gs c p) (m .status is 76) (λ e. either (Does gs c p) (m .group is p .run .group) (λ k. replied (eqb-true _ _ e)) (λ k. d))
-        (λ no76. let q = H .other (eqb-false _ _ no76) in
-        either (Does gs c p) (m .status is 77) (λ e. either (Does gs c p) (m .group is p .run .group) (λ k. switched-over) (λ k. d))
-        (λ e. either (Does gs c p) (m .status isnt 0) (λ e. d)
-        (λ zero. either (Does gs c p) (not (m .listed)) (λ e. retransmitted W 77 (m .group) time q s)
-        (λ here. let k = H .commit (eqb-true _ _ (not-false _ zero)) (not-false _ here) in
-        either (Does gs c p) (m .group isnt p .run .group)
-        (λ e. either (Does gs c p) (higher own (p .address)) (λ e. retransmitted W 0 (p .run .group) time q s)
-        (λ e. either (Does gs c p) (same (m .commit) (freshFor gs (stockOf c) (m .group))) (λ e. d)
-        (λ e. either (Does gs c p) (not verified) (λ e. d)
-        (λ e. formed-fresh (p .address) (m .group) _ (m .commit) time (inr s) (S .group (m .group) (k .1)) (k .0)))))
-        (λ ours. either (Does gs c p) (same (m .commit) (p .run .own)) (λ e. d)
-        (λ e. either (Does gs c p) (not verified) (λ e. d)
-        (λ e. formed-own (p .address) (m .group) (m .commit) time s (eqb-true _ _ (not-false _ ours)) (k .0))))))))
+  heard-again : (rc : ℕ) → p .run .state ≡ 0 → (p .link .finished ≡ 0 → ⊥) → Does gs c p (hearingAgain p rc)
+  unfolding hearingAgain answering withLink
+  heard-again rc s d = answers n s (rw (ne-eqb _ _ d) refl) refl (heard-link p rc (p .link .sync + 1) d)
 
-  module _ (W : Whole p) where
-    confirm-committed : (status time : ℕ) → getsTokenRequest gs c ≡ false → p .run .state ≡ 1 → Does gs c p (onConfirmCommitted factory p status time)
-    unfolding onConfirmCommitted
-    confirm-committed status time k s = either (Does gs c p) (status isnt 0) (λ e. dropped time) (λ e. retransmitted W 0 (p .run .group) time k s)
+-- ---- the rules
 
-    t0-committed : (time : ℕ) → getsTokenRequest gs c ≡ false → p .run .state ≡ 1 → Does gs c p (onT0Committed factory p time)
-    unfolding onT0Committed
-    t0-committed time k s = retransmitted W 0 (p .run .group) time k s
+not-76 : {n : ℕ} → n ≡ 0 → n ≡ 76 → ⊥
+not-76 e f = omega arith
 
-    commit-confirmed : (status group time : ℕ) → (status ≡ 0 → getsTokenRequest gs c ≡ false) → p .run .state ≡ 2 → Does gs c p (onCommitConfirmed factory p status group time)
-    unfolding onCommitConfirmed sending withRun setT0 counting
-    commit-confirmed status group time k s =
-        either (Does gs c p) (status isnt 0) (λ e. dropped time)
-        (λ zero. either (Does gs c p) (p .run .sync above 5) (λ e. abandoned W)
-        (λ low. either (Does gs c p) (group isnt p .run .group) (λ e. dropped time)
-        (λ e. repeats-both n (k (eqb-true _ _ (not-false _ zero))) s (ltb-false 5 _ low)
-        (record { state = s; sync = refl; sc = refl; group = refl; own = refl; peer = refl }) refl)))
+module _ (t : Terms) (b : book.Call) (c : Call) (p : Peer) (m : Message) (n : isStart c ≡ false) (five : t .timing .limit ≡ 5) (same : b .fresh ≡ stockOf c)
+    (W : Whole p) (z : State (p .run .state)) (H : Heard (t .groups) c m (b .verified)) (S : (m .sequence is 1) ≡ true → Stocked (t .groups) c) where
+  act-does : {a : Act} → Asked t b p m a → fits (m .sequence is 1) a ≡ true → Does (t .groups) c p (perform t b p m a)
+  unfolding perform fits repeatingCommit repeatingRefusal
+  act-does (refuse-group r s l) f = informed (t .groups) c (t .timing) p n five W 77 (m .group) (without p z r) refl
+  act-does (ask-token r s l) f = informed (t .groups) c (t .timing) p n five W 76 (m .group) (without p z r) refl
+  act-does (no-slot r u) f = denied (t .groups) c (t .timing) p n five W
+  act-does (begin r u) f = absurd (clash f refl)
+  act-does (answer-commit d u o e) f =
+      let k = H .commit (o .status) (o .listed) in
+      let w = S f .group (m .group) (k .1) in
+      formed-fresh (t .groups) c (t .timing) p n five W (b .address) m _ (b .time) (unconfirmed z d)
+      (subst (λ (x : List ℕ). Afresh (t .groups) c (m .group) (freshFor (t .groups) x (m .group))) (sym same) w) (k .0)
+  act-does (confirm-commit s o g e) f = formed-own (t .groups) c (t .timing) p n five W (b .address) m (b .time) s g (H .commit (o .status) (o .listed) .0)
+  act-does (reply-token s q g) f = replied (t .groups) c (t .timing) p n five W m (b .time) s (H .request f q)
+  act-does (switch-group s q g) f =
+      subst (λ (x : List ℕ). Does (t .groups) c p (switching (t .timing) p (t .groups) x (b .time))) (sym same)
+      (switched-over (t .groups) c (t .timing) p n five W (b .time) s (S f))
+  act-does (repeat-commit s q) f = retransmitted (t .groups) c (t .timing) p n five W 0 (p .run .group) (b .time) (H .other (not-76 q)) s
+  act-does (repeat-refusal s q l) f = retransmitted (t .groups) c (t .timing) p n five W 77 (m .group) (b .time) (H .other (not-76 q)) s
+  act-does (resend-both s q l g) f = resent (t .groups) c (t .timing) p n five W (b .time) (H .other (not-76 q)) s l
+  act-does (confirm-again s q) f = confirmed-again (t .groups) c (t .timing) p n five W (b .time) (H .other (not-76 q)) s
+  act-does (give-up s q l) f = abandoned (t .groups) c (t .timing) p n five W
+  act-does (accept s d q v) f = accepted (t .groups) c (t .timing) p n five W (m .counter) (b .time) s (H .confirm d q v)
+  act-does (hear-again r d l h v) f = heard-again (t .groups) c (t .timing) p n five W (m .counter) (without p z r) d
+  act-does (hear-last r d l h v) f = heard-last (t .groups) c (t .timing) p n five W (m .counter) d
+  act-does end-link f = ended (t .groups) c (t .timing) p n five W
+  act-does drop f = dropped (t .groups) c (t .timing) p n five W (b .time)
 
-    confirm-confirmed : (status counter : ℕ) (verified : Bool) (time : ℕ) → (status ≡ 0 → verified ≡ true → Verified gs c) → p .run .state ≡ 2
-        → Does gs c p (onConfirmConfirmed factory p status counter verified time)
-    unfolding onConfirmConfirmed holds accepting linkOfRun
-    confirm-confirmed status counter verified time v s =
-        either (Does gs c p) (status isnt 0) (λ e. dropped time)
-        (λ zero. either (Does gs c p) (not verified) (λ e. dropped time)
-        (λ e. accepts n s (v (eqb-true _ _ (not-false _ zero)) (not-false _ e)) refl refl refl refl refl refl))
+  pub frame-does : Does (t .groups) c p (onFrame t b p m)
+  unfolding onFrame
+  frame-does = act-does (frame-asked t b p m) (frame-fits t b p m .yes)
 
-    heard-link : (rc sync : ℕ) → eqb (p .link .finished) 0 ≡ false → SameLink p (withLink p (heardAgain (p .link) rc sync))
-    unfolding withLink heardAgain
-    heard-link rc sync f =
-        record { free = λ e. absurd (eqb-false _ _ f (no-link-finished (p .link) e)); finished = refl; superseded = refl; group = refl; own = refl; peer = refl }
+-- a clock call brings no frame
+pub clock-does : (t : Terms) (b : book.Call) (c : Call) (p : Peer) → isStart c ≡ false → t .timing .limit ≡ 5 → b .fresh ≡ stockOf c → Whole p → State (p .run .state)
+    → Heard (t .groups) c silence (b .verified) → Does (t .groups) c p (onClock t b p)
+unfolding onClock
+clock-does t b c p n five same W z H =
+    act-does t b c p silence n five same W z H (λ e. absurd (clash e refl)) (clock-asked t b p (states z)) (clock-fits p (b .time) .yes)
 
-    heard-run : (rc sync : ℕ) → SameRun p (withLink p (heardAgain (p .link) rc sync))
-    unfolding withLink
-    heard-run rc sync = record { free = λ e. e; state = refl; group = refl; own = refl; peer = refl; sync = refl; sc = refl }
-
-    answers-link : (rc : ℕ) → p .run .state ≡ 0 → p .link .finished isnt 0 ≡ true
-        → Does gs c p (answering (withLink p (heardAgain (p .link) rc (p .link .sync + 1))) (One (confirmFrame 65535)))
-    unfolding answering withLink
-    answers-link rc s f = answers n s f refl (heard-link rc (p .link .sync + 1) (not-true _ f))
-
-    confirm-linked : (status counter : ℕ) (verified : Bool) (time : ℕ) → p .run .state ≡ 0 → p .link .finished isnt 0 ≡ true
-        → Does gs c p (onConfirmLinked factory p status counter verified time)
-    unfolding onConfirmLinked holds answering
-    confirm-linked status counter verified time s f =
-        either (Does gs c p) (status isnt 0) (λ e. dropped time)
-        (λ e. either (Does gs c p) (p .link .sync above 5) (λ e. ended W)
-        (λ e. either (Does gs c p) (not (counter above p .link .rc)) (λ e. dropped time)
-        (λ e. either (Does gs c p) (not verified) (λ e. dropped time)
-        (λ e. either (Does gs c p) (counter is 65535)
-        (λ e. quiet n (heard-run counter (p .link .sync)) (heard-link counter (p .link .sync) (not-true _ f)))
-        (λ e. answers-link counter s f)))))
-
-    -- ---- a run takes all frames while it lasts
-
-    pub commit-does : (own address : List ℕ) (m : Received) (crowded entitled verified : Bool) (time : ℕ) → State (p .run .state) → Heard gs c m → Stocked gs c
-        → Does gs c p (onCommit factory p own address m gs (stockOf c) crowded entitled verified time)
-    unfolding onCommit
-    commit-does own address m crowded entitled verified time z H S =
-        either (Does gs c p) (p .run .state is 1) (λ e. commit-committed W (eqb-true _ _ e) m H S time own verified)
-        (λ one. either (Does gs c p) (p .run .state is 2)
-        (λ e. commit-confirmed (m .status) (m .group) time (λ k. H .other (λ q. let w : _≡_ {A = ℕ} 0 76 = sym k ∙ q in absurd (omega arith))) (eqb-true _ _ e))
-        (λ two. commit-idle address m crowded entitled verified time (neither _ z one two) H S))
-
-    pub confirm-does : (status counter : ℕ) (verified : Bool) (time : ℕ) → State (p .run .state) → getsTokenRequest gs c ≡ false
-        → (status ≡ 0 → verified ≡ true → Verified gs c) → Does gs c p (onConfirm factory p status counter verified time)
-    unfolding onConfirm
-    confirm-does status counter verified time z k v =
-        either (Does gs c p) (p .run .state is 1) (λ e. confirm-committed status time k (eqb-true _ _ e))
-        (λ one. either (Does gs c p) (p .run .state is 2) (λ e. confirm-confirmed status counter verified time v (eqb-true _ _ e))
-        (λ two. either (Does gs c p) (p .link .finished isnt 0) (λ f. confirm-linked status counter verified time (neither _ z one two) f)
-        (λ e. dropped time)))
-
-    pub expired-does : (time : ℕ) → State (p .run .state) → getsTokenRequest gs c ≡ false → Does gs c p (onExpired factory p time)
-    unfolding onExpired onT0 onT1 holds t0Due
-    expired-does time z k =
-        either (Does gs c p) (t0Due p time)
-        (λ e. either (Does gs c p) (p .run .state is 2) (λ two. retransmitted-confirm W time k (eqb-true _ _ two))
-        (λ two. t0-committed time k (not-idle _ z (not-true _ (and-left _ _ e)) two)))
-        (λ e. ended W)
-
--- "Committed, first group, fresh commit"
-pub start-does : (gs : List ℕ) (c : Call) (p : Peer) (address : List ℕ) (g : ℕ) (own : List ℕ) (time : ℕ) → isStart c ≡ true → isFrame c ≡ false → p .run .state ≡ 0
-    → Afresh gs c g own → Does gs c p (onStart factory p address g own time)
-unfolding onStart startedRun setT0
-start-does gs c p address g own time e f s a = starts e f s a (record { state = refl; sync = refl; group = refl; own = refl }) refl
+-- a start that is not refused: "Committed, first group, fresh commit"
+pub start-does : (t : Terms) (b : book.Call) (c : Call) (p : Peer) → isStart c ≡ true → isFrame c ≡ false → p .run .state ≡ 0
+    → Afresh (t .groups) c (getD (t .groups) 0 0) (freshAt (b .fresh) 0) → onStart t b p .refused ≡ false → Does (t .groups) c p (onStart t b p)
+unfolding onStart startAct perform refusing starting startedRun setT0 holds
+start-does t b c p e f s a r = go (t .full) r
+  where
+    go : (x : Bool) → perform t b p silence (if x then NoSlot else Begin) .refused ≡ false → Does (t .groups) c p (perform t b p silence (if x then NoSlot else Begin))
+    go true q = absurd (clash refl q)
+    go false q = starts e f s a (record { state = refl; sync = refl; group = refl; own = refl }) refl

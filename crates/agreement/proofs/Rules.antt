@@ -1,29 +1,21 @@
 -- What a step can do to a record and say of it: the few kinds of steps that the list of calls tells apart, and each rule's steps are of these kinds.
-use mathlib.Core.Path.{_≡_, refl, sym, ap, _∙_, subst}
-use mathlib.Core.Logic.{_⊎_, inl, inr}
-use mathlib.Core.Bool.{Bool, true, false, not, _&&_, _||_}
-use mathlib.Core.List.{List, [], _∷_}
-use Prim.Native.Nat.{ℕ, _+_, _≤_, _<_}
-use native.Mathlib.Omega.{arith}
-use lib.Dec.{eqb, leb, ltb}
-use lib.ListN.{length, take}
-use borrow.Author.Tests.{eqb-true, eq-eqb, ne-eqb, eqb-false, ltb-true, ltb-false}
+use mathlib.Core.Path.{_≡_, refl}
+use mathlib.Core.Logic.{_⊎_}
+use mathlib.Core.Bool.{Bool, true, false}
+use mathlib.Core.List.{List, []}
+use Prim.Native.Nat.{ℕ, _+_, _≤_}
+use lib.Dec.{eqb}
+use lib.ListN.{take}
 use Rattle.octets.specs.Scan.{if_then_else_}
-use Rattle.octets.proofs.Scan.{clash}
 use Rattle.groups.specs.Groups.{stored, commitLength, freshFor}
 use Rattle.frame.specs.Frame.{readBody, commitOf}
 use Rattle.frame.specs.declared.Body.the-variants as body
-use Rattle.record.specs.declared.Run.{Run}
-use Rattle.record.specs.declared.Link.{Link}
 use Rattle.record.specs.declared.Peer.{Peer}
-use Rattle.record.specs.Layout.{noRun, noLink, noPeer}
-use Rattle.acts.specs.declared.Frame.{Frame}
-use Rattle.acts.specs.declared.Frames.{Frames}
-use Rattle.acts.specs.declared.Frames.the-variants as frames
-use Rattle.acts.specs.declared.Event.the-variants as event
-use Rattle.acts.specs.declared.Step.{Step}
-use Rattle.acts.specs.Acts.{_is_, _isnt_, _above_, holds, factory, commitFrame, confirmFrame, withRun, withLink, counting, setT0, sending, answering, settled, abandoning, retransmitting, dropping, supersede, formedRun, forming, linkOfRun, accepting, endingLink}
-use Rattle.agreement.specs.Calls.{Call, initialize, initiate, kill, receive, expire}
+use Rattle.record.specs.Layout.{noRun, noLink}
+use Rattle.rules.specs.declared.Frames.the-variants as frames
+use Rattle.rules.specs.declared.Event.the-variants as event
+use Rattle.rules.specs.Book.{_isnt_, Step, commitFrame, confirmFrame, supersede}
+use Rattle.agreement.specs.Calls.{Call, receive}
 use Rattle.agreement.specs.Story.{isStart, isFrame, frameOf, stockOf, getsTokenRequest}
 
 -- what holds of both arms, each under its test, holds of the whole
@@ -94,47 +86,47 @@ pub data Verified (gs : List ℕ) : Call → Type 0 where
 pub data Does (gs : List ℕ) (c : Call) (p : Peer) : Step → Type 0 where
   -- nothing is sent, used or told, and the record says what it said
   quiet : {q : Peer} {d : Bool} → isStart c ≡ false → SameRun p q → SameLink p q
-      → Does gs c p (record { peer = q; event = event.None; frames = frames.None; fresh = 0; dropped = d })
+      → Does gs c p (record { peer = q; event = event.None; frames = frames.None; afresh = 0; refused = d })
   -- a 76 or 77 without a run
   informs : {x g : ℕ} → isStart c ≡ false → p .run .state ≡ 0 → eqb x 0 ≡ false
-      → Does gs c p (record { peer = p; event = event.None; frames = frames.One (record { sequence = 1; status = x; group = g; counter = 0 }); fresh = 0; dropped = false })
+      → Does gs c p (record { peer = p; event = event.None; frames = frames.One (record { sequence = 1; status = x; group = g; counter = 0 }); afresh = 0; refused = false })
   -- a start
   starts : {q : Peer} {g : ℕ} {own : List ℕ} → isStart c ≡ true → isFrame c ≡ false → p .run .state ≡ 0 → Afresh gs c g own → Committed q 0 g own → q .link ≡ p .link
-      → Does gs c p (record { peer = q; event = event.None; frames = frames.One (commitFrame g); fresh = g; dropped = false })
+      → Does gs c p (record { peer = q; event = event.None; frames = frames.One (commitFrame g); afresh = g; refused = false })
   -- a switch of group
   switches : {q : Peer} {g : ℕ} {own : List ℕ} → isStart c ≡ false → p .run .state ≡ 1 → Afresh gs c g own → Committed q (p .run .sync) g own → q .link ≡ p .link
-      → Does gs c p (record { peer = q; event = event.None; frames = frames.One (commitFrame g); fresh = g; dropped = false })
+      → Does gs c p (record { peer = q; event = event.None; frames = frames.One (commitFrame g); afresh = g; refused = false })
   -- a pair formed with a fresh commit, or with the run's own
   forms-fresh : {q : Peer} {g : ℕ} {own theirs : List ℕ} → isStart c ≡ false → (p .run .state ≡ 0) ⊎ (p .run .state ≡ 1)
       → Afresh gs c g own → Hears gs c g theirs → Confirmed q 0 1 g own theirs → q .link ≡ supersede (p .link)
-      → Does gs c p (record { peer = q; event = event.None; frames = frames.Two (commitFrame g) (confirmFrame 1); fresh = g; dropped = false })
+      → Does gs c p (record { peer = q; event = event.None; frames = frames.Two (commitFrame g) (confirmFrame 1); afresh = g; refused = false })
   forms-own : {q : Peer} {theirs : List ℕ} → isStart c ≡ false → p .run .state ≡ 1
       → Hears gs c (p .run .group) theirs → Confirmed q 0 1 (p .run .group) (p .run .own) theirs → q .link ≡ supersede (p .link)
-      → Does gs c p (record { peer = q; event = event.None; frames = frames.One (confirmFrame 1); fresh = 0; dropped = false })
+      → Does gs c p (record { peer = q; event = event.None; frames = frames.One (confirmFrame 1); afresh = 0; refused = false })
   -- a repeat in Committed, and the reply to a 76
   repeats : {q : Peer} {x g : ℕ} → isStart c ≡ false → getsTokenRequest gs c ≡ false → p .run .state ≡ 1 → p .run .sync ≤ 5
       → Committed q (p .run .sync + 1) (p .run .group) (p .run .own) → q .link ≡ p .link
-      → Does gs c p (record { peer = q; event = event.None; frames = frames.One (record { sequence = 1; status = x; group = g; counter = 0 }); fresh = 0; dropped = false })
+      → Does gs c p (record { peer = q; event = event.None; frames = frames.One (record { sequence = 1; status = x; group = g; counter = 0 }); afresh = 0; refused = false })
   replies : {q : Peer} {g : ℕ} → isStart c ≡ false → getsTokenRequest gs c ≡ true → p .run .state ≡ 1
       → Committed q (p .run .sync) (p .run .group) (p .run .own) → q .link ≡ p .link
-      → Does gs c p (record { peer = q; event = event.None; frames = frames.One (commitFrame g); fresh = 0; dropped = false })
+      → Does gs c p (record { peer = q; event = event.None; frames = frames.One (commitFrame g); afresh = 0; refused = false })
   -- a repeat in Confirmed, of Commit and Confirm or of the Confirm
   repeats-both : {q : Peer} {g : ℕ} → isStart c ≡ false → getsTokenRequest gs c ≡ false → p .run .state ≡ 2 → p .run .sync ≤ 5
       → Confirmed q (p .run .sync + 1) (p .run .sc + 1) (p .run .group) (p .run .own) (p .run .peer) → q .link ≡ p .link
-      → Does gs c p (record { peer = q; event = event.None; frames = frames.Two (commitFrame g) (confirmFrame (p .run .sc + 1)); fresh = 0; dropped = false })
+      → Does gs c p (record { peer = q; event = event.None; frames = frames.Two (commitFrame g) (confirmFrame (p .run .sc + 1)); afresh = 0; refused = false })
   repeats-confirm : {q : Peer} → isStart c ≡ false → getsTokenRequest gs c ≡ false → p .run .state ≡ 2 → p .run .sync ≤ 5
       → Confirmed q (p .run .sync + 1) (p .run .sc + 1) (p .run .group) (p .run .own) (p .run .peer) → q .link ≡ p .link
-      → Does gs c p (record { peer = q; event = event.None; frames = frames.One (confirmFrame (p .run .sc + 1)); fresh = 0; dropped = false })
+      → Does gs c p (record { peer = q; event = event.None; frames = frames.One (confirmFrame (p .run .sc + 1)); afresh = 0; refused = false })
   -- the run becomes the link
   accepts : {q : Peer} → isStart c ≡ false → p .run .state ≡ 2 → Verified gs c → q .run ≡ noRun
       → q .link .finished ≡ 1 → q .link .superseded ≡ 0 → q .link .group ≡ p .run .group → q .link .own ≡ p .run .own → q .link .peer ≡ p .run .peer
-      → Does gs c p (record { peer = q; event = event.Accepted; frames = frames.None; fresh = 0; dropped = false })
+      → Does gs c p (record { peer = q; event = event.Accepted; frames = frames.None; afresh = 0; refused = false })
   -- the run ends
   abandons : {q : Peer} → isStart c ≡ false → q .run ≡ noRun → q .link ≡ p .link
-      → Does gs c p (record { peer = q; event = event.Abandoned; frames = frames.None; fresh = 0; dropped = false })
+      → Does gs c p (record { peer = q; event = event.Abandoned; frames = frames.None; afresh = 0; refused = false })
   -- the link ends
   ends : {q : Peer} → isStart c ≡ false → q .run ≡ p .run → q .link ≡ noLink
-      → Does gs c p (record { peer = q; event = event.Ended; frames = frames.None; fresh = 0; dropped = false })
+      → Does gs c p (record { peer = q; event = event.Ended; frames = frames.None; afresh = 0; refused = false })
   -- a link's Confirm
   answers : {q : Peer} → isStart c ≡ false → p .run .state ≡ 0 → p .link .finished isnt 0 ≡ true → q .run ≡ p .run → SameLink p q
-      → Does gs c p (record { peer = q; event = event.None; frames = frames.One (confirmFrame 65535); fresh = 0; dropped = false })
+      → Does gs c p (record { peer = q; event = event.None; frames = frames.One (confirmFrame 65535); afresh = 0; refused = false })

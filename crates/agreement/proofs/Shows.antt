@@ -1,34 +1,32 @@
 -- A record says what the story of its address says, and every step keeps that so.
 use mathlib.Core.Path.{_≡_, refl, sym, ap, _∙_, subst}
-use mathlib.Core.Logic.{_⊎_, inl, inr}
-use mathlib.Core.Bool.{Bool, true, false, not, _&&_, _||_}
+use mathlib.Core.Logic.{inl, inr}
+use mathlib.Core.Bool.{Bool, true, false}
 use mathlib.Core.List.{List, [], _∷_}
-use Prim.Native.Nat.{ℕ, suc, _+_, _≤_, _<_}
+use Prim.Native.Nat.{ℕ, suc, _+_, _≤_}
 use native.Mathlib.Omega.{arith}
 use native.Mathlib.Numerals.{add-one}
 use lib.Dec.{eqb}
 use lib.ListN.{take}
-use borrow.Author.Tests.{eqb-true, eq-eqb, ne-eqb, eqb-false}
+use borrow.Author.Tests.{eqb-true, ne-eqb}
 use Rattle.protocol.specs.Model.{Commit}
-use Rattle.protocol.specs.Repeats.{Tally, more, AtMost, none, run}
+use Rattle.protocol.specs.Repeats.{Tally, AtMost, run}
 use Rattle.protocol.proofs.Repeats.{begun-at-most, more-at-most}
-use Rattle.octets.specs.Scan.{if_then_else_}
 use Rattle.groups.specs.Groups.{stored, commitLength}
-use Rattle.frame.specs.Frame.{readBody}
-use Rattle.frame.specs.declared.Body.{Body}
 use Rattle.record.specs.declared.Run.{Run}
 use Rattle.record.specs.declared.Link.{Link}
 use Rattle.record.specs.declared.Peer.{Peer}
 use Rattle.record.specs.Layout.{noRun, noLink, noPeer}
-use Rattle.acts.specs.declared.Step.{Step}
-use Rattle.acts.specs.Acts.{_is_, supersede}
-use Rattle.turn.specs.Turn.{said}
+use Rattle.rules.specs.Book.{Step}
+use Rattle.rules.specs.Book.{_is_, supersede}
+use Rattle.message.specs.View.{view, message, messageOf, commitIn}
+use Rattle.answers.specs.Answers.{said}
 use Rattle.agreement.specs.Calls.{Call}
-use Rattle.agreement.specs.Story.{Pair, unlinked, finished, marked, Story, isStart, isFrame, frameOf, commitIn, heard, getsTokenRequest, answered, told, cleared}
+use Rattle.agreement.specs.Story.{Pair, unlinked, finished, marked, Story, answered, told, cleared}
 use Rattle.agreement.specs.Story as story
 use Rattle.agreement.specs.Statement.{Says, no-link, a-link}
-use Rattle.agreement.proofs.Rules.{either, Whole, SameRun, SameLink, Afresh, Committed, Confirmed, Hears, Verified, Does, quiet, informs, starts, switches, forms-fresh, forms-own, repeats, replies, repeats-both, repeats-confirm, accepts, abandons, ends, answers}
-use Rattle.agreement.proofs.Ruled.{State, idle, committed, confirmed, no-run-state, no-link-finished}
+use Rattle.agreement.proofs.Rules.{either, Whole, SameRun, SameLink, Confirmed, Does, quiet, informs, starts, switches, forms-fresh, forms-own, repeats, replies, repeats-both, repeats-confirm, accepts, abandons, ends, answers}
+use Rattle.agreement.proofs.Ruled.{State, idle, committed, confirmed, no-run-state}
 
 pub impossible : {X : Type 0} (n : ℕ) {a b : ℕ} → n ≡ a → n ≡ b → (a ≡ b → ⊥) → X
 impossible n e f g = absurd (g (sym e ∙ f))
@@ -117,7 +115,7 @@ module _ (gs : List ℕ) (c : Call) (a : List ℕ) (l : story.Link) where
       RunShows (o .peer .run) (After o b d f x ks .running) (After o b d f x ks .stands) (After o b d f x ks .fresh) (After o b d f x ks .pair) (After o b d f x ks .runs)
 
   run-kept : {p : Peer} {o : Step} {b d : Bool} {f : Commit} {x : Pair} {ks : List Tally} → Does gs c p o → RunShows (p .run) b d f x ks → RunAfter o b d f x ks
-  unfolding told said
+  unfolding told said view message messageOf commitIn
   run-kept (quiet n E L) (no-run e) = rw n (no-run (E .free e))
   run-kept (quiet n E L) (unpaired e a b c d z) = rw n (same-shows E (unpaired e a b c d z))
   run-kept (quiet n E L) (paired e a b c d g z) = rw n (same-shows E (paired e a b c d g z))

@@ -1,32 +1,29 @@
 -- The stock of a sound table's call: each listed group has its place, a commit used afresh is no 0 group's, and it is zero past its length.
 use mathlib.Core.Path.{_≡_, refl, sym, ap, _∙_, subst}
-use mathlib.Core.Bool.{Bool, true, false, not, _&&_, _||_}
+use mathlib.Core.Bool.{Bool, true, false, not, _||_}
 use mathlib.Core.List.{List, [], _∷_, _++_}
-use Prim.Native.Nat.{ℕ, zero, suc, _+_, _*_, _-_, _≤_, _<_}
+use Prim.Native.Nat.{ℕ, zero, suc, _+_, _*_, _-_, _<_}
 use native.Mathlib.Omega.{arith}
 use lib.Dec.{eqb}
-use lib.ListN.{length, take, drop, getD, replicate, length-take, length-drop, take-append-drop}
+use lib.ListN.{length, take, drop, getD, length-drop, take-append-drop}
 use lib.Seq.{length-take-le}
-use borrow.Author.Tests.{eqb-true, eq-eqb, ne-eqb, eqb-false}
-use Rattle.octets.specs.Scan.{if_then_else_}
+use borrow.Author.Tests.{eqb-true, eq-eqb, ne-eqb, not-true}
 use Rattle.octets.specs.Octets.{allZero}
 use Rattle.octets.specs.declared.Found.{Found}
 use Rattle.octets.specs.declared.Found.the-variants as found
-use Rattle.octets.proofs.Scan.{clash, and-left, and-right, cases}
+use Rattle.octets.proofs.Scan.{clash, and-left, and-right}
 use Rattle.octets.proofs.Laws.{length-part}
 use Rattle.octets.proofs.Tests.{zero-is}
-use Rattle.groups.specs.Groups.{width, known, listed, commitLength, stored, placeFrom, place, placeOr0, indexOf, freshAt, freshFor}
+use Rattle.groups.specs.Groups.{width, known, listed, commitLength, stored, placeFrom, place, placeOr0, indexOf, freshAt, freshFor, tailsOk, freshOk}
 use Rattle.groups.proofs.Laws.{commit-fits, listed-place, place-at}
-use Rattle.form.specs.Form.{allKnown, eachOnce}
-use Rattle.form.proofs.Laws.{header-form, groups-form, listed-known}
-use Rattle.record.specs.Layout.{groupsOf}
-use Rattle.table.specs.Table.{decodeTable, sound}
+use Rattle.soundness.specs.Soundness.{allKnown, eachOnce}
+use Rattle.soundness.proofs.Laws.{header-form, groups-form, listed-known}
+use Rattle.table.specs.Table.{sound}
 use Rattle.table.proofs.Laws.{sound-header}
-use Rattle.intake.specs.Intake.{tailsOk, commitsOk}
 use Rattle.agreement.specs.Calls.{Call}
 use Rattle.agreement.specs.Story.{stockOf, groupsIn}
 use Rattle.agreement.proofs.Rules.{Afresh}
-use Rattle.agreement.proofs.Ruled.{Stocked, not-true}
+use Rattle.agreement.proofs.Ruled.{Stocked}
 
 -- ---- places
 
@@ -72,13 +69,13 @@ padded-of g c l z =
     let d : length (drop (commitLength g) c) ≡ width - commitLength g = length-drop (commitLength g) c ∙ ap (λ (x : ℕ). x - commitLength g) l in
     rw m (ap (λ (x : List ℕ). take (commitLength g) c ++ x) (sym (zero-is _ _ d z)) ∙ take-append-drop (commitLength g) c)
 
-module _ (gs fresh : List ℕ) (k : allKnown gs ≡ true) (o : eachOnce gs ≡ true) (w : commitsOk gs fresh ≡ true) where
+module _ (gs fresh : List ℕ) (k : allKnown gs ≡ true) (o : eachOnce gs ≡ true) (w : freshOk gs fresh ≡ true) where
   fresh-length : length fresh ≡ width * length gs
-  unfolding commitsOk
+  unfolding freshOk
   fresh-length = eqb-true _ _ (and-left _ _ w)
 
   fresh-tails : tailsOk gs 0 fresh ≡ true
-  unfolding commitsOk
+  unfolding freshOk
   fresh-tails = and-right (eqb (length fresh) (width * length gs)) _ w
 
   at-length : (i : ℕ) → i < length gs → length (freshAt fresh i) ≡ width

@@ -1,43 +1,43 @@
 -- A list of calls that keeps to the premises is a list of acts that the protocol allows.
 use mathlib.Core.Path.{_≡_, refl, sym, ap, _∙_, subst, subst⁻¹}
-use mathlib.Core.Bool.{Bool, true, false, not, _&&_, _||_}
+use mathlib.Core.Bool.{Bool, true, false}
 use mathlib.Core.List.{List, [], _∷_}
-use Prim.Native.Nat.{ℕ, _+_}
+use Prim.Native.Nat.{ℕ}
 use lib.Dec.{eqb}
 use lib.ListN.{length}
-use borrow.Author.Tests.{eqb-false}
-use Rattle.protocol.specs.Model.{Commit, Side, A, B, other, Act, fresh, formFresh, formOwn, sendCommit, sendConfirm, sendBoth, accept, endRun, endLink, endBoth, idle, act, state, Uses, Forms, SendsCommit, SendsConfirm, Accepts, At, now, earlier, Once, Unused, Guard, World, Valid, nothing, unlinked, confirmed}
+use borrow.Author.Tests.{eqb-false, not-true}
+use Rattle.protocol.specs.Model.{Commit, Side, A, B, other, Act, fresh, formFresh, formOwn, sendCommit, sendConfirm, sendBoth, accept, endRun, endLink, endBoth, idle, act, state, Uses, Forms, SendsCommit, SendsConfirm, Accepts, At, now, earlier, Once, Unused, Guard, World, Valid}
 use Rattle.protocol.specs.Model as model
 use Rattle.protocol.specs.Repeats.{Tally}
 use Rattle.protocol.proofs.Agree.{state-same, state-other, sides}
-use Rattle.octets.specs.Octets.{Bytes, sameAddress}
+use Rattle.octets.specs.Octets.{sameAddress}
 use Rattle.octets.proofs.Scan.{clash}
 use Rattle.groups.specs.Groups.{stored}
 use Rattle.frame.specs.Frame.{readBody, commitOf}
-use Rattle.frame.specs.Writing.{Drawn, Octets}
+use Rattle.frame.specs.Writing.{Octets}
 use Rattle.frame.specs.declared.Body.the-variants as body
 use Rattle.record.specs.declared.Run.{Run}
 use Rattle.record.specs.declared.Link.{Link}
 use Rattle.record.specs.declared.Peer.{Peer}
 use Rattle.record.specs.Layout.{noPeer, noLink}
-use Rattle.table.specs.Table.{decodeTable, look, sound}
-use Rattle.acts.specs.declared.Frame.{Frame}
-use Rattle.acts.specs.Acts.{_is_, _isnt_}
+use Rattle.table.specs.Table.{decodeTable, look}
+use Rattle.rules.specs.declared.Frame.{Frame}
+use Rattle.rules.specs.Book.{_is_}
 use Rattle.agreement.specs.Calls.{Call, receive, Entry, Handed, AllHanded, none, more, left, done, tableAfter, mine, tableOf, answerOf, stepped, Comes, last, sooner}
 use Rattle.agreement.specs.Story.{Pair, exchanged, Story, isConfirm, frameOf, groupsIn, storyOf}
 use Rattle.agreement.specs.Story as story
-use Rattle.agreement.specs.Sent.{drawn, expectedOf, Among, SendsBy, Sent, linkPair, madeOver, SentOver}
+use Rattle.agreement.specs.Sent.{drawn, expectedOf, SendsBy, Sent, linkPair, madeOver, SentOver}
 use Rattle.agreement.specs.Statement as statement
 use Rattle.agreement.specs.Statement.{Meets, Premises, Says, no-link, a-link}
-use Rattle.agreement.proofs.Rules.{either, Hears, Verified, verified}
-use Rattle.agreement.proofs.Ruled.{no-run-state, not-true}
-use Rattle.agreement.proofs.Shows.{Padded, RunShows, no-run, unpaired, paired, Shows, zero-one, zero-two, one-two}
-use Rattle.agreement.proofs.Stock.{Listing, sound-listing}
-use Rattle.agreement.proofs.Engine.{Lawful, Ends, call-ends, fresh-look}
+use Rattle.agreement.proofs.Rules.{Verified, verified}
+use Rattle.agreement.proofs.Ruled.{no-run-state}
+use Rattle.agreement.proofs.Shows.{Padded, RunShows, no-run, unpaired, paired, Shows, zero-two, one-two}
+use Rattle.agreement.proofs.Stock.{sound-listing}
+use Rattle.agreement.proofs.Engine.{Lawful, call-ends, fresh-look}
 use Rattle.agreement.proofs.History.{look-same-address, bytes-of, shown, empty-slot}
-use Rattle.agreement.proofs.Acts.{ownCommit, peerCommit, linkOwn, linkPeer, view, Over, over-run, over-link, commit-is}
+use Rattle.agreement.proofs.Acts.{ownCommit, view, Over, over-run, over-link, commit-is}
 use Rattle.agreement.proofs.Wire.{FromRecord, record-from, parts-not, reads-own}
-use Rattle.agreement.proofs.Deeds.{From, from, FormsHere, AcceptsHere, Deed, deed, view-none}
+use Rattle.agreement.proofs.Deeds.{From, from, Deed, deed, view-none}
 
 -- ---- what a story says where its record is Confirmed, or linked
 

@@ -1,29 +1,26 @@
 -- Octets that a printer sent and that read as a status 0 Commit in a listed group are its record's Commit: group and stored commit are the run's own.
 use mathlib.Core.Path.{_≡_, refl, sym, ap, _∙_, subst}
-use mathlib.Core.Bool.{Bool, true, false, not, _&&_, _||_}
-use mathlib.Core.List.{List, [], _∷_}
-use Prim.Native.Nat.{ℕ, _+_, _≤_, _<_}
+use mathlib.Core.Bool.{Bool, true, false, _||_}
+use mathlib.Core.List.{List, []}
+use Prim.Native.Nat.{ℕ, _+_, _<_}
 use native.Mathlib.Omega.{arith}
-use lib.Dec.{eqb, ltb, lit<}
+use lib.Dec.{eqb, ltb}
 use lib.ListN.{length, take}
-use borrow.Author.Tests.{eqb-true, eq-eqb, ne-eqb, eqb-false}
+use borrow.Author.Tests.{eqb-true}
 use Rattle.protocol.specs.Model.{Commit}
-use Rattle.octets.specs.Scan.{if_then_else_}
 use Rattle.octets.proofs.Scan.{clash}
 use Rattle.groups.specs.Groups.{known, listed, commitLength, stored}
-use Rattle.frame.specs.Frame.{readBody, groupOf, commitOf, isOffer, body, commitBody, tokenRequestBody, groupRefusalBody, confirmBody}
+use Rattle.frame.specs.Frame.{readBody, groupOf, commitOf, isOffer, body, commitBody}
 use Rattle.frame.specs.Writing.{Drawn, Octets, Outside, drawCommit, drawTokenRequest, drawGroupRefusal, drawConfirm, drawCommits, drawConfirms, partsBody}
-use Rattle.frame.specs.declared.Body.{Body}
 use Rattle.frame.specs.declared.Body.the-variants as body-is
 use Rattle.frame.proofs.Laws.{length-body}
 use Rattle.frame.proofs.Shapes.{commit-shape}
 use Rattle.frame.proofs.RoundTrip.{body-third, commit-back, token-request-no-offer, group-refusal-no-offer, confirm-no-offer}
-use Rattle.form.proofs.Laws.{listed-known}
+use Rattle.soundness.proofs.Laws.{listed-known}
 use Rattle.record.specs.declared.Peer.{Peer}
-use Rattle.acts.specs.Acts.{_is_, _isnt_}
+use Rattle.rules.specs.Book.{_is_, _isnt_}
 use Rattle.writer.specs.Writer.{recordCommit, recordConfirm, recordBody}
 use Rattle.agreement.proofs.Rules.{either}
-use Rattle.agreement.proofs.Ruled.{not-true}
 use Rattle.agreement.proofs.Shows.{Padded}
 use Rattle.agreement.proofs.Stock.{Listing}
 use Rattle.agreement.proofs.Acts.{ownCommit, commit-is}

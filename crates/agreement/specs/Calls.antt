@@ -8,11 +8,11 @@ use Rattle.protocol.specs.Model.{Side, A, B}
 use Rattle.octets.specs.Scan.{if_then_else_}
 use Rattle.octets.specs.Octets.{Bytes}
 use Rattle.record.specs.declared.Settings.{Settings}
-use Rattle.turn.specs.declared.Outcome.{Outcome}
-use Rattle.turn.specs.declared.Outcome.the-variants as outcome
-use Rattle.turn.specs.declared.Answer.{Answer}
-use Rattle.turn.specs.Turn.{Left}
-use Rattle.engine.specs.Calls.{initializes, initiates, kills, receives, expires}
+use Rattle.answers.specs.declared.Outcome.{Outcome}
+use Rattle.answers.specs.declared.Outcome.the-variants as outcome
+use Rattle.answers.specs.declared.Answer.{Answer}
+use Rattle.answers.specs.Answers.{Left}
+use Rattle.calls.specs.Calls.{initializes, initiates, kills, receives, expires}
 
 -- "Set up; start; kill; frame received; clock", with all that is handed over
 pub data Call : Type 0 where

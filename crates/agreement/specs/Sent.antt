@@ -1,6 +1,6 @@
 -- What a printer sent to an address, octet by octet, and over which pair a Confirm was made.
 use mathlib.Core.Path.{_≡_}
-use mathlib.Core.Bool.{Bool, true, false}
+use mathlib.Core.Bool.{true}
 use mathlib.Core.List.{List, [], _∷_}
 use Prim.Native.Nat.{ℕ}
 use Rattle.protocol.specs.Model.{Side}
@@ -8,10 +8,10 @@ use Rattle.octets.specs.Scan.{if_then_else_}
 use Rattle.octets.specs.Octets.{sameAddress}
 use Rattle.frame.specs.Writing.{Drawn, Octets, partsBody}
 use Rattle.table.specs.Table.{decodeTable, look}
-use Rattle.acts.specs.declared.Frame.{Frame}
-use Rattle.acts.specs.declared.Frames.{Frames}
-use Rattle.acts.specs.declared.Frames.the-variants.{None, One, Two}
-use Rattle.acts.specs.Acts.{_is_}
+use Rattle.rules.specs.declared.Frame.{Frame}
+use Rattle.rules.specs.declared.Frames.{Frames}
+use Rattle.rules.specs.declared.Frames.the-variants.{One, Two}
+use Rattle.rules.specs.Book.{_is_}
 use Rattle.writer.specs.Writer.{recordBody}
 use Rattle.agreement.specs.Calls.{Call, initialize, initiate, kill, receive, expire, Entry, tableOf, answerOf, stepped, Comes}
 use Rattle.agreement.specs.Story.{Pair, Link, unlinked, finished, Story, groupsIn, isConfirm, storyOf}

@@ -14,7 +14,7 @@ use Rattle.record.specs.declared.Link as stored
 use Rattle.record.specs.declared.Settings.{Settings}
 use Rattle.record.specs.Layout.{noLink}
 use Rattle.table.specs.Table.{decodeTable, look}
-use Rattle.agreement.specs.Calls.{initialize, receive, Entry, AllHanded, tableOf, answerOf, stepped, Comes}
+use Rattle.agreement.specs.Calls.{initialize, receive, Entry, tableOf, answerOf, stepped, Comes}
 use Rattle.agreement.specs.Story.{Pair, exchanged, Link, unlinked, finished, Story, groupsIn, usesAfresh, usedAfresh, formsPair, storyOf}
 use Rattle.agreement.specs.Sent.{Sent, SentOver}
 

@@ -1,26 +1,24 @@
 -- What the answers of a printer's calls tell of one address, refused calls apart: commits used afresh, pairs formed, runs, the finished link and its
 -- mark, repeats. The table is read for its listed groups alone, which say how a frame is read and which place of the stock a group has.
-use mathlib.Core.Path.{_≡_}
 use mathlib.Core.Bool.{Bool, true, false, not, _&&_, _||_}
 use mathlib.Core.List.{List, [], _∷_}
 use Prim.Native.Nat.{ℕ}
-use Rattle.protocol.specs.Model.{Side, A, B, Commit}
+use Rattle.protocol.specs.Model.{Side, Commit}
 use Rattle.protocol.specs.Repeats.{Tally, more}
 use Rattle.octets.specs.Scan.{if_then_else_}
 use Rattle.octets.specs.Octets.{sameAddress}
-use Rattle.groups.specs.Groups.{stored, freshFor}
-use Rattle.frame.specs.Frame.{readBody, commitOf}
-use Rattle.frame.specs.declared.Body.{Body}
-use Rattle.frame.specs.declared.Body.the-variants as body
+use Rattle.groups.specs.Groups.{freshFor}
 use Rattle.record.specs.Layout.{groupsOf}
 use Rattle.table.specs.Table.{decodeTable}
-use Rattle.acts.specs.declared.Frame.{Frame}
-use Rattle.acts.specs.declared.Frames.{Frames}
-use Rattle.acts.specs.declared.Frames.the-variants as frames
-use Rattle.acts.specs.declared.Event.{Event}
-use Rattle.acts.specs.declared.Event.the-variants as event
-use Rattle.acts.specs.Acts.{_is_, _isnt_}
-use Rattle.turn.specs.declared.Answer.{Answer}
+use Rattle.rules.specs.declared.Frame.{Frame}
+use Rattle.rules.specs.declared.Frames.{Frames}
+use Rattle.rules.specs.declared.Frames.the-variants as frames
+use Rattle.rules.specs.declared.Event.{Event}
+use Rattle.rules.specs.declared.Event.the-variants as event
+use Rattle.rules.specs.Book.{_is_, _isnt_}
+use Rattle.message.specs.declared.View.{View}
+use Rattle.message.specs.View.{view, message}
+use Rattle.answers.specs.declared.Answer.{Answer}
 use Rattle.agreement.specs.Calls.{Call, initialize, initiate, kill, receive, expire, Entry, left, done, mine, tableOf}
 
 -- a pair, as one end has it
@@ -87,32 +85,15 @@ stockOf (receive address time frame fresh expected verdict) = fresh
 stockOf (expire time) = []
 
 -- the frame's group and its commit, "filled with zeros as when stored"
-abbrev pub commitIn : List ℕ → Body → Commit
-commitIn s (body.Commit g n) = record { group = g; octets = stored (commitOf s g n) }
-commitIn s (body.Unsupported g) = record { group = g; octets = [] }
-commitIn s (body.TokenRequest g n) = record { group = g; octets = [] }
-commitIn s (body.GroupRefusal g) = record { group = g; octets = [] }
-commitIn s (body.OtherCommit x) = record { group = 0; octets = [] }
-commitIn s (body.Confirm n) = record { group = 0; octets = [] }
-commitIn s (body.OtherConfirm x) = record { group = 0; octets = [] }
-commitIn s body.Malformed = record { group = 0; octets = [] }
-
 abbrev pub heard : List ℕ → Call → Commit
-heard groups c = commitIn (frameOf c) (readBody groups (frameOf c))
+heard groups c = record { group = message groups (frameOf c) .group; octets = message groups (frameOf c) .commit }
 
 -- a 76
-abbrev pub isTokenRequest : Body → Bool
-isTokenRequest (body.Commit g n) = false
-isTokenRequest (body.Unsupported g) = false
-isTokenRequest (body.TokenRequest g n) = true
-isTokenRequest (body.GroupRefusal g) = false
-isTokenRequest (body.OtherCommit x) = false
-isTokenRequest (body.Confirm n) = false
-isTokenRequest (body.OtherConfirm x) = false
-isTokenRequest body.Malformed = false
+abbrev pub isTokenRequest : View → Bool
+isTokenRequest v = (v .sequence is 1) && (v .status is 76)
 
 abbrev pub getsTokenRequest : List ℕ → Call → Bool
-getsTokenRequest groups c = isFrame c && isTokenRequest (readBody groups (frameOf c))
+getsTokenRequest groups c = isFrame c && isTokenRequest (view groups (frameOf c))
 
 -- ---- what an answer has
 
@@ -147,10 +128,10 @@ isAbandoned event.Ended = false
 
 -- "The commit used afresh is the stock's for the stock group in the answer, if that is not 0"
 abbrev pub usesAfresh : Answer → Bool
-usesAfresh r = r .fresh isnt 0
+usesAfresh r = r .afresh isnt 0
 
 abbrev pub usedAfresh : List ℕ → Call → Answer → Commit
-usedAfresh groups c r = record { group = r .fresh; octets = freshFor groups (stockOf c) (r .fresh) }
+usedAfresh groups c r = record { group = r .afresh; octets = freshFor groups (stockOf c) (r .afresh) }
 
 -- "A frame call that answers a Confirm with counter 1 forms a pair"
 abbrev pub formsPair : Call → Answer → Bool

@@ -1,33 +1,29 @@
 -- The edges marked as proved, as one table: each case asks a question of the definitions of calls and rules and has the numbers that answer it.
-use mathlib.Core.Bool.{Bool, true, false, _&&_}
+use mathlib.Core.Bool.{Bool, true, _&&_}
 use mathlib.Core.List.{List, [], _∷_, _++_}
 use Prim.Native.Nat.{ℕ, zero, suc, _+_}
 use lib.ListN.{replicate}
 use Rattle.octets.specs.Scan.{if_then_else_}
-use Rattle.octets.specs.Octets.{same, oct}
+use Rattle.octets.specs.Octets.{same}
 use Rattle.octets.specs.declared.Found.{Found}
 use Rattle.octets.specs.declared.Found.the-variants as found
 use Rattle.groups.specs.Groups.{width}
-use Rattle.frame.specs.Frame.{readBody, head, commitBody, confirmBody}
-use Rattle.frame.specs.declared.Body.{Body}
-use Rattle.frame.specs.declared.Body.the-variants as body
-use Rattle.record.specs.declared.Header.{Header}
-use Rattle.record.specs.declared.Run.{Run}
-use Rattle.record.specs.declared.Link.{Link}
+use Rattle.frame.specs.Frame.{head}
 use Rattle.record.specs.declared.Peer.{Peer}
 use Rattle.record.specs.Layout.{groupsOf, noRun, noLink, noPeer}
-use Rattle.table.specs.Table.{Table, placed}
-use Rattle.acts.specs.declared.Frame.{Frame}
-use Rattle.acts.specs.declared.Frames.{Frames}
-use Rattle.acts.specs.declared.Frames.the-variants as frames
-use Rattle.acts.specs.declared.Step.{Step}
-use Rattle.acts.specs.Acts.{_is_, eventNumber, factory}
-use Rattle.machine.specs.Rules.{onExpired}
-use Rattle.due.specs.Due.{dueSlot}
-use Rattle.turn.specs.declared.Turn.{Turn}
-use Rattle.turn.specs.declared.Turn.the-variants as turn
-use Rattle.turn.specs.Turn.{number}
-use Rattle.engine.specs.Calls.{admitFrame, startStep, frameStep}
+use Rattle.table.specs.Table.{Table, placed, slot, lookBy}
+use Rattle.rules.specs.declared.Act.{Act}
+use Rattle.rules.specs.declared.Act.the-variants.{Drop, RefuseGroup, AskToken, NoSlot, AnswerCommit, ConfirmCommit, ReplyToken, SwitchGroup, RepeatCommit, RepeatRefusal, ResendBoth, ConfirmAgain, GiveUp, Accept, HearAgain, HearLast, EndLink, Begin}
+use Rattle.rules.specs.declared.Frame.{Frame}
+use Rattle.rules.specs.declared.Frames.{Frames}
+use Rattle.rules.specs.declared.Frames.the-variants as frames
+use Rattle.rules.specs.Book.{_is_, Step, eventNumber, frameAct, clockAct}
+use Rattle.message.specs.declared.View.{View}
+use Rattle.message.specs.View.{view, message}
+use Rattle.answers.specs.declared.Turn.{Turn}
+use Rattle.answers.specs.declared.Turn.the-variants as turn
+use Rattle.answers.specs.Answers.{number}
+use Rattle.calls.specs.Calls.{termsOf, brings, admitFrame, startStep, frameStep, dueSlot, clockStep}
 
 -- ---- tables: eight slots, groups 19 and 20, threshold 5
 
@@ -132,66 +128,92 @@ framesNumbers frames.None = []
 framesNumbers (frames.One f) = frameNumbers f
 framesNumbers (frames.Two f g) = frameNumbers f ++ frameNumbers g
 
--- sequence, status, group or counter, length of the token
-abbrev pub shapeNumbers : Body → List ℕ
-shapeNumbers (body.Commit g n) = 1 ∷ 0 ∷ g ∷ n ∷ []
-shapeNumbers (body.Unsupported g) = 1 ∷ 0 ∷ g ∷ []
-shapeNumbers (body.TokenRequest g n) = 1 ∷ 76 ∷ g ∷ n ∷ []
-shapeNumbers (body.GroupRefusal g) = 1 ∷ 77 ∷ g ∷ []
-shapeNumbers (body.OtherCommit s) = 1 ∷ s ∷ []
-shapeNumbers (body.Confirm n) = 2 ∷ 0 ∷ n ∷ []
-shapeNumbers (body.OtherConfirm s) = 2 ∷ s ∷ []
-shapeNumbers body.Malformed = []
+-- sequence, status, group, counter, length of the token
+abbrev pub viewNumbers : View → List ℕ
+viewNumbers v = v .sequence ∷ v .status ∷ v .group ∷ v .counter ∷ v .toklen ∷ []
 
 -- the refusal's number, or what was read
-abbrev pub admitted : Turn → Body → List ℕ
-admitted (turn.Refused c) b = number c ∷ []
-admitted (turn.Go f) b = shapeNumbers b
+abbrev pub admitted : Turn → View → List ℕ
+admitted (turn.Refused c) v = number c ∷ []
+admitted (turn.Go f) v = viewNumbers v
 
 abbrev pub slotNumbers : Found → List ℕ
 slotNumbers found.Nothing = []
 slotNumbers (found.At k) = k ∷ []
 
-abbrev pub flag : Bool → ℕ
-flag b = if b then 1 else 0
+-- the acts of the book, told apart
+unfoldable pub named : Act → ℕ
+named Drop = 0
+named RefuseGroup = 1
+named AskToken = 2
+named NoSlot = 3
+named AnswerCommit = 4
+named ConfirmCommit = 5
+named ReplyToken = 6
+named SwitchGroup = 7
+named RepeatCommit = 8
+named RepeatRefusal = 9
+named ResendBoth = 10
+named ConfirmAgain = 11
+named GiveUp = 12
+named Accept = 13
+named HearAgain = 14
+named HearLast = 15
+named EndLink = 16
+named Begin = 17
 
 -- ---- questions, one for each kind of edge
 
 pub data Question : Type 0 where
-  -- a frame call's test of these octets: 7, or the shape read
+  -- a frame call's test of these octets: 7, or the view of what was read
   Received : List ℕ → Question
   -- the t0 deadline of a start at a reading
   Deadline : ℕ → Question
   -- started at a reading, the slot that a clock call at another reading takes
   Due : ℕ → ℕ → Question
-  -- a run in a state with a Sync whose t0 is due: event, Sync left, frames
+  -- a run in a state with a Sync whose t0 is due: the act that the ladder names, event, Sync left, frames
   Expired : ℕ → ℕ → Question
-  -- a link with a Sync and Rc gets a Confirm with a counter and a verdict: dropped, Rc and Sync left, frames
+  -- a link with a Sync and Rc gets a Confirm with a counter and a verdict: the act, Rc and Sync left, frames
   Confirmed : ℕ → ℕ → ℕ → ℕ → Question
-  -- with so many Open, a Commit without a token from a new peer: stock group used, frames
+  -- with so many Open, a Commit without a token from a new peer: the act, stock group used, frames
   Offered : ℕ → Question
 
 -- a start on the empty table
 abbrev pub started : ℕ → Peer
 started time = startStep empty found.Nothing (address 1) time stock .peer
 
-abbrev pub sayExpired : Step → List ℕ
-sayExpired s = eventNumber (s .event) ∷ s .peer .run .sync ∷ framesNumbers (s .frames)
+-- the act that the ladder names for a frame, heard at 0 from an address whose record is at f
+abbrev pub heard : Table → Found → List ℕ → List ℕ → ℕ → Act
+heard T f a frame verdict =
+    frameAct (termsOf T f) (brings a 0 stock expected (verdict is 1)) (lookBy T f) (message (groupsOf (T .header)) frame)
 
-abbrev pub sayConfirmed : Step → List ℕ
-sayConfirmed s = flag (s .dropped) ∷ s .peer .link .rc ∷ s .peer .link .sync ∷ framesNumbers (s .frames)
+abbrev pub sayExpired : Act → Step → List ℕ
+sayExpired a s = named a ∷ eventNumber (s .event) ∷ s .peer .run .sync ∷ framesNumbers (s .frames)
 
-abbrev pub sayOffered : Step → List ℕ
-sayOffered s = s .fresh ∷ framesNumbers (s .frames)
+abbrev pub sayConfirmed : Act → Step → List ℕ
+sayConfirmed a s = named a ∷ s .peer .link .rc ∷ s .peer .link .sync ∷ framesNumbers (s .frames)
+
+abbrev pub sayOffered : Act → Step → List ℕ
+sayOffered a s = named a ∷ s .afresh ∷ framesNumbers (s .frames)
+
+-- each asks the ladder for the act and the call for its step
+abbrev pub answerExpired : Table → List ℕ
+answerExpired T = sayExpired (clockAct (slot T 7) 0) (clockStep T 7 0)
+
+abbrev pub answerConfirmed : Table → List ℕ → ℕ → List ℕ
+answerConfirmed T frame verdict =
+    sayConfirmed (heard T (found.At 7) (address 1) frame verdict) (frameStep T (found.At 7) (address 1) 0 frame stock expected verdict)
+
+abbrev pub answerOffered : Table → List ℕ → List ℕ
+answerOffered T frame = sayOffered (heard T found.Nothing (address 100) frame 1) (frameStep T found.Nothing (address 100) 0 frame stock expected 1)
 
 unfoldable pub answer : Question → List ℕ
-answer (Received s) = admitted (admitFrame empty found.Nothing s stock expected 1) (readBody (groupsOf (empty .header)) s)
+answer (Received s) = admitted (admitFrame empty found.Nothing s stock expected 1) (view (groupsOf (empty .header)) s)
 answer (Deadline time) = started time .run .t0 ∷ []
 answer (Due time later) = slotNumbers (dueSlot (placed empty 7 (started time)) later)
-answer (Expired state sync) = sayExpired (onExpired factory (running 1 state sync) 0)
-answer (Confirmed sync rc counter verdict) =
-    sayConfirmed (frameStep (placed empty 7 (linked 1 sync rc)) (found.At 7) (address 1) 0 (confirmOctets counter 32) stock expected verdict)
-answer (Offered n) = sayOffered (frameStep (withOpen n) found.Nothing (address 100) 0 (commitOctets 96) stock expected 1)
+answer (Expired state sync) = answerExpired (placed empty 7 (running 1 state sync))
+answer (Confirmed sync rc counter verdict) = answerConfirmed (placed empty 7 (linked 1 sync rc)) (confirmOctets counter 32) verdict
+answer (Offered n) = answerOffered (withOpen n) (commitOctets 96)
 
 -- ---- the table of cases
 
@@ -213,24 +235,24 @@ allHold (c ∷ cs) = holds c && allHold cs
 abbrev pub edges : List Case
 edges =
     -- "Group 19 Commit: 104 octets read, 103 refused"
-    case (Received (commitOctets 96)) (1 ∷ 0 ∷ 19 ∷ 0 ∷ [])
+    case (Received (commitOctets 96)) (1 ∷ 0 ∷ 19 ∷ 0 ∷ 0 ∷ [])
     ∷ case (Received (commitOctets 95)) (7 ∷ [])
     -- "Confirm: 40 read, 41 refused"
-    ∷ case (Received (confirmOctets 1 32)) (2 ∷ 0 ∷ 1 ∷ [])
+    ∷ case (Received (confirmOctets 1 32)) (2 ∷ 0 ∷ 0 ∷ 1 ∷ 0 ∷ [])
     ∷ case (Received (confirmOctets 1 33)) (7 ∷ [])
     -- "t0 set with Sync 0 at 4,294,967,290: deadline 34; not due at 33, due at 34"
     ∷ case (Deadline 4294967290) (34 ∷ [])
     ∷ case (Due 4294967290 33) []
     ∷ case (Due 4294967290 34) (7 ∷ [])
     -- "Sync 5 repeats, Sync 6 gives up": in Committed the Commit, in Confirmed a new Confirm
-    ∷ case (Expired 1 5) (0 ∷ 6 ∷ 1 ∷ 0 ∷ 19 ∷ 0 ∷ [])
-    ∷ case (Expired 1 6) (2 ∷ 0 ∷ [])
-    ∷ case (Expired 2 5) (0 ∷ 6 ∷ 2 ∷ 0 ∷ 0 ∷ 7 ∷ [])
-    ∷ case (Expired 2 6) (2 ∷ 0 ∷ [])
+    ∷ case (Expired 1 5) (named RepeatCommit ∷ 0 ∷ 6 ∷ 1 ∷ 0 ∷ 19 ∷ 0 ∷ [])
+    ∷ case (Expired 1 6) (named RepeatCommit ∷ 2 ∷ 0 ∷ [])
+    ∷ case (Expired 2 5) (named ConfirmAgain ∷ 0 ∷ 6 ∷ 2 ∷ 0 ∷ 0 ∷ 7 ∷ [])
+    ∷ case (Expired 2 6) (named ConfirmAgain ∷ 2 ∷ 0 ∷ [])
     -- "Link with Sync 0 and Rc 1: counter 1 dropped, counter 2 with verdict 1 answered"
-    ∷ case (Confirmed 0 1 1 1) (1 ∷ 1 ∷ 0 ∷ [])
-    ∷ case (Confirmed 0 1 2 1) (0 ∷ 2 ∷ 1 ∷ 2 ∷ 0 ∷ 0 ∷ 65535 ∷ [])
+    ∷ case (Confirmed 0 1 1 1) (named Drop ∷ 1 ∷ 0 ∷ [])
+    ∷ case (Confirmed 0 1 2 1) (named HearAgain ∷ 2 ∷ 1 ∷ 2 ∷ 0 ∷ 0 ∷ 65535 ∷ [])
     -- "Open 4 of 5 needs no token, 5 does": Commit and Confirm, or a 76
-    ∷ case (Offered 4) (19 ∷ 1 ∷ 0 ∷ 19 ∷ 0 ∷ 2 ∷ 0 ∷ 0 ∷ 1 ∷ [])
-    ∷ case (Offered 5) (0 ∷ 1 ∷ 76 ∷ 19 ∷ 0 ∷ [])
+    ∷ case (Offered 4) (named AnswerCommit ∷ 19 ∷ 1 ∷ 0 ∷ 19 ∷ 0 ∷ 2 ∷ 0 ∷ 0 ∷ 1 ∷ [])
+    ∷ case (Offered 5) (named AskToken ∷ 0 ∷ 1 ∷ 76 ∷ 19 ∷ 0 ∷ [])
     ∷ []

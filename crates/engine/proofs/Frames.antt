@@ -1,243 +1,273 @@
--- A frame received: its step in a record's octets, in a slot of the table, and outside it.
+-- A frame received: causes 4 to 7, and its step in a slot of the table and outside it.
 use mathlib.Core.Path.{_≡_, refl, sym, ap, _∙_, subst}
 use mathlib.Core.Bool.{Bool, true, false, not}
-use mathlib.Core.List.{List, [], _∷_}
-use Prim.Native.Nat.{ℕ, _+_, _-_, _*_, _≤_}
+use mathlib.Core.List.{List}
+use Prim.Native.Nat.{ℕ, _≤_, _<_}
 use native.Mathlib.Omega.{arith}
-use lib.Dec.{lit≤}
-use lib.ListN.{length, take, drop, getD, length-drop}
-use lib.Seq.{length-take-le}
-use borrow.Author.Tests.{not-true, not-false}
-use borrow.Rule.Slice.PartMut.{putMid}
+use lib.Dec.{eqb, ltb, lit≤}
+use lib.ListN.{length, take}
+use lib.Seq.{take-all}
+use borrow.Author.Tests.{eq-eqb, ne-eqb, lt-ltb, le-ltb, eqb-true, not-false}
+use Rattle.octets.specs.Octets.{Bytes, part}
 use Rattle.octets.specs.Scan.{if_then_else_}
-use Rattle.octets.specs.Octets.{part, num, Bytes}
 use Rattle.octets.specs.declared.Found.{Found}
 use Rattle.octets.specs.declared.Found.the-variants as found
-use Rattle.groups.specs.Groups.{width, freshFor}
-use Rattle.frame.specs.Frame.{readBody}
-use Rattle.frame.specs.declared.Body.{Body}
+use Rattle.groups.specs.Groups.{width, freshOk}
 use Rattle.record.specs.declared.Header.{Header}
 use Rattle.record.specs.declared.Peer.{Peer}
-use Rattle.record.specs.Layout.{groupsOf, decodePeer, recordSize, noPeer, noRun, noLink, decodeHeader, headerOf}
-use Rattle.record.proofs.Laws.{peer-at}
-use Rattle.table.specs.Table.{Table, size, decodeTable, encodeTable, recounted, slot, lookBy, freeSlot, sound}
-use Rattle.table.proofs.Octets.{window-law}
-use Rattle.acts.specs.declared.Said.{Said}
-use Rattle.acts.specs.Acts.{_is_, factory, dropping, answering, forming}
-use Rattle.acts.specs.Said.{Does}
-use Rattle.machine.specs.declared.Received.{Received}
-use Rattle.machine.specs.Rules.{onCommit, onCommitIdle, onConfirm}
-use Rattle.machine.specs.Acted.{formingFresh}
-use Rattle.invariant.proofs.Outcomes.{idle-outcomes}
-use Rattle.turn.specs.declared.Refusal.the-variants as why
-use Rattle.turn.specs.declared.Answer.{Answer}
-use Rattle.turn.specs.Turn.{Leaves, Seated, seating, finishes, answered, refused}
-use Rattle.turn.proofs.Laws.{full-said, full-refused}
-use Rattle.intake.specs.Intake.{commitsOk, isCommit, heardOf, entitledOf, confirmStatus, confirmCounter}
-use Rattle.intake.proofs.Laws.{commits-length}
-use Rattle.engine.specs.Calls.{crowded, commitStep, confirmStep, frameStepBy, frameStep}
-use Rattle.engine.specs.InSlot.{DoesAt, Steps, only}
-use Rattle.engine.proofs.Laws.{count-range, look-range}
-use Rattle.engine.proofs.Slots.{at-does, seat-slot, seat-look, seat-done}
+use Rattle.record.specs.Layout.{groupsOf, decodePeer, noPeer}
+use Rattle.table.specs.Table.{Table, decodeTable, encodeTable, recounted, slot, lookBy, entry, Enters}
+use Rattle.table.specs.declared.Entrance.{Entrance}
+use Rattle.table.specs.declared.Entry.{Entry}
+use Rattle.table.specs.declared.Entry.the-variants as entry-is
+use Rattle.rules.specs.declared.Given.{Given}
+use Rattle.rules.specs.declared.Message.{Message}
+use Rattle.rules.specs.declared.Said.{Said}
+use Rattle.rules.specs.Book.{_is_, Terms, Call, Step, onFrame}
+use Rattle.rules.specs.Given.{terms, call}
+use Rattle.rules.specs.Said.{Does, saying}
+use Rattle.rule_laws.proofs.Slots.{frame-seated}
+use Rattle.message.specs.declared.View.{View}
+use Rattle.message.specs.View.{confirmView, view, messageOf, message}
+use Rattle.answers.specs.declared.Answer.{Answer}
+use Rattle.answers.specs.declared.Refusal.{Refusal}
+use Rattle.answers.specs.declared.Refusal.the-variants as why
+use Rattle.answers.specs.declared.Turn.{Turn}
+use Rattle.answers.specs.declared.Turn.the-variants.{Refused, Go}
+use Rattle.answers.specs.Answers.{Leaves, Left, refuse, seating, refused, said, answered, finishAt, finishes}
+use Rattle.answers.proofs.Laws.{clashed, turned-refused, turned-go}
+use Rattle.calls.specs.Calls.{termsOf, brings, admitFrame, frameTurn, frameStep, receives}
+use Rattle.engine.specs.declared.Admitted.{Admitted}
+use Rattle.engine.specs.InSlot.{Held, Met, Stocks, givenBy, slotless, Brought, refusedFrame, AdmitsFrame, TakesFrame, DoesAt, answersOutside}
+use Rattle.engine.proofs.Headers.{enters-met}
+use Rattle.engine.proofs.Windows.{look-seat, seat-done}
+use Rattle.engine.proofs.Starts.{seat-none, seated-terms, unseated-terms, brought, stocks}
 
--- ---- what the rules ask of a record's octets, the header and the stock
+-- ---- causes 4, 5, 6, 7
 
-module _ (s : List ℕ) (h : Header) (fresh : List ℕ) (S : Steps s h fresh) where
-  pub steps-count : h .count ≡ length (take (h .count) (h .groups))
-  steps-count = sym (length-take-le (h .count) (h .groups) (omega (arith, S .few, S .two)))
+-- the tests, over the listed groups alone
+abbrev admission : List ℕ → Found → List ℕ → List ℕ → List ℕ → ℕ → Turn
+admission gs f frame fresh expected verdict =
+    if not (freshOk gs fresh) then Refused why.Fresh
+    else if not (eqb (length expected) 32) then Refused why.Token
+    else if ltb 1 verdict then Refused why.Verdict
+    else if view gs frame .sequence is 0 then Refused why.Body
+    else Go f
 
-  pub steps-asked : (length s ≡ recordSize width) × ((decodePeer width s .run .sync ≤ 6) × ((decodePeer width s .run .sc ≤ 7)
-      × ((1 ≤ length (take (h .count) (h .groups))) × ((length (take (h .count) (h .groups)) ≤ 8) × (length fresh ≡ width * length (take (h .count) (h .groups)))))))
-  steps-asked =
-      (S .whole, (S .sync, (S .sc, (omega (arith, steps-count, S .some), (omega (arith, steps-count, S .few), commits-length (take (h .count) (h .groups)) fresh (S .stock))))))
+module _ (h : Header) (f : Found) (frame fresh expected : List ℕ) (verdict : ℕ) where
+  admitted : (r : Turn) → r ≡ admission (groupsOf h) f frame fresh expected verdict → (T : Table) → h ≡ T .header → r ≡ admitFrame T f frame fresh expected verdict
+  unfolding admitFrame
+  admitted r q T e = q ∙ ap (λ (g : Header). admission (groupsOf g) f frame fresh expected verdict) e
 
--- ---- the step in a record's octets
+  refuses : (r : Admitted) (c : Refusal) → r ≡ refusedFrame c → Refused c ≡ admission (groupsOf h) f frame fresh expected verdict → AdmitsFrame r h f frame fresh expected verdict
+  refuses r c e q =
+      record {
+        turn = admitted (r .turn) (ap (λ (x : Admitted). x .turn) e ∙ q);
+        view = λ k z. clashed (sym (ap (λ (x : Admitted). x .turn) e) ∙ z);
+        short = subst (λ (x : Admitted). x .view .toklen ≤ 256) (sym e) (lit≤ tt);
+      }
 
-module _ (x : Said) (left : List ℕ) where
-  pub commit-does : (h : Header) (p : Peer) (a : List ℕ) (m : Received) (fresh : List ℕ) (c e v : Bool) (time : ℕ) → c ≡ crowded h
-      → Does x left (onCommit factory p (h .own) a m (take (h .count) (h .groups)) fresh c e v time) → Does x left (commitStep (only h p) (found.At 0) a m fresh e v time)
-  unfolding commitStep lookBy slot
-  commit-does h p a m fresh c e v time q d = subst (λ (b : Bool). Does x left (onCommit factory p (h .own) a m (take (h .count) (h .groups)) fresh b e v time)) q d
+  module _ (b : Bool) (eb : b ≡ freshOk (groupsOf h) fresh) (r : Admitted) where
+    pub frame-stock : not b ≡ true → r ≡ refusedFrame why.Fresh → AdmitsFrame r h f frame fresh expected verdict
+    frame-stock q e = let z : not (freshOk (groupsOf h) fresh) ≡ true = ap not (sym eb) ∙ q in refuses r why.Fresh e (rw z refl)
 
-  module _ (T : Table) (f : Found) (a fresh : List ℕ) (time : ℕ) (frame expected : List ℕ) where
-    -- the step of a body that is a Commit, and of one that is none
-    commit-shape : (v : Bool) (B : Body) → isCommit B ≡ true → commitStep T f a (heardOf frame B) fresh (entitledOf frame B expected) v time ≡ frameStepBy B T f a time frame fresh expected v
-    unfolding frameStepBy
-    commit-shape v B q = rw q refl
+    pub frame-token : not b ≡ false → (length expected ≡ 32 → ⊥) → r ≡ refusedFrame why.Token → AdmitsFrame r h f frame fresh expected verdict
+    frame-token q d e = let z : not (freshOk (groupsOf h) fresh) ≡ false = ap not (sym eb) ∙ q in refuses r why.Token e (rw (z, ne-eqb _ _ d) refl)
 
-    confirm-shape : (v : Bool) (B : Body) → isCommit B ≡ false → confirmStep T f (confirmStatus B) (confirmCounter B) v time ≡ frameStepBy B T f a time frame fresh expected v
-    unfolding frameStepBy
-    confirm-shape v B q = rw q refl
+    pub frame-verdict : not b ≡ false → length expected ≡ 32 → 1 < verdict → r ≡ refusedFrame why.Verdict → AdmitsFrame r h f frame fresh expected verdict
+    frame-verdict q d v e =
+        let z : not (freshOk (groupsOf h) fresh) ≡ false = ap not (sym eb) ∙ q in
+        refuses r why.Verdict e (rw (z, eq-eqb _ _ d, lt-ltb _ _ v) refl)
 
-    module _ (verdict : ℕ) (B : Body) (k : Bool) (e : B ≡ readBody (groupsOf (T .header)) frame) (ek : k ≡ isCommit B) where
-      -- the body that was read
-      read-does : Does x left (frameStepBy B T f a time frame fresh expected (verdict is 1)) → Does x left (frameStep T f a time frame fresh expected verdict)
-      unfolding frameStep
-      read-does d = subst (λ (z : Body). Does x left (frameStepBy z T f a time frame fresh expected (verdict is 1))) e d
+    module _ (w : View) (ew : (w ≡ view (groupsOf h) frame) × (w .toklen ≤ 256)) where
+      pub frame-body : not b ≡ false → length expected ≡ 32 → verdict ≤ 1 → w .sequence ≡ 0 → r ≡ refusedFrame why.Body → AdmitsFrame r h f frame fresh expected verdict
+      frame-body q d v n e =
+          let z : not (freshOk (groupsOf h) fresh) ≡ false = ap not (sym eb) ∙ q in
+          let y : eqb (view (groupsOf h) frame .sequence) 0 ≡ true = eq-eqb _ _ (ap (λ (x : View). x .sequence) (sym (ew .0)) ∙ n) in
+          refuses r why.Body e (rw (z, eq-eqb _ _ d, le-ltb _ _ v, y) refl)
 
-      pub commit-read : (m : Received) (b : Bool) → not k ≡ false → m ≡ heardOf frame B → b ≡ entitledOf frame B expected
-          → Does x left (commitStep T f a m fresh b (verdict is 1) time) → Does x left (frameStep T f a time frame fresh expected verdict)
-      commit-read m b q em eb d =
-          let o : Does x left (commitStep T f a (heardOf frame B) fresh (entitledOf frame B expected) (verdict is 1) time) =
-          subst (Does x left) (λ i. commitStep T f a (em i) fresh (eb i) (verdict is 1) time) d in
-          read-does (subst (Does x left) (commit-shape (verdict is 1) B (sym ek ∙ not-false k q)) o)
+      pub frame-go : not b ≡ false → length expected ≡ 32 → verdict ≤ 1 → (w .sequence ≡ 0 → ⊥) → r ≡ record { turn = Go f; view = w } → AdmitsFrame r h f frame fresh expected verdict
+      frame-go q d v n e =
+          let z : not (freshOk (groupsOf h) fresh) ≡ false = ap not (sym eb) ∙ q in
+          let y : eqb (view (groupsOf h) frame .sequence) 0 ≡ false = ne-eqb _ _ (λ i. n (ap (λ (x : View). x .sequence) (ew .0) ∙ i)) in
+          record {
+            turn = admitted (r .turn) (ap (λ (x : Admitted). x .turn) e ∙ rw (z, eq-eqb _ _ d, le-ltb _ _ v, y) refl);
+            view = λ k i. ap (λ (x : Admitted). x .view) e ∙ ew .0;
+            short = subst (λ (x : Admitted). x .view .toklen ≤ 256) (sym e) (ew .1);
+          }
 
-      pub confirm-read : (status counter : ℕ) → not k ≡ true → status ≡ confirmStatus B → counter ≡ confirmCounter B
-          → Does x left (confirmStep T f status counter (verdict is 1) time) → Does x left (frameStep T f a time frame fresh expected verdict)
-      confirm-read status counter q es ec d =
-          let o : Does x left (confirmStep T f (confirmStatus B) (confirmCounter B) (verdict is 1) time) =
-          subst (Does x left) (λ i. confirmStep T f (es i) (ec i) (verdict is 1) time) d in
-          read-does (subst (Does x left) (confirm-shape (verdict is 1) B (sym ek ∙ not-true k q)) o)
+-- ---- which entry a frame met
 
--- ---- THE STEP IS ABOUT THE HEADER AND THE RECORD ONLY
+module _ (h : Header) (frame fresh expected : List ℕ) (verdict : ℕ) (r : Admitted) (E : Entry) where
+  pub takes-refused : (x : Entry) (c : Refusal) → E ≡ x → ((t : List ℕ) → frameTurn x t frame fresh expected verdict ≡ Refused c) → r ≡ refusedFrame c → TakesFrame r h E frame fresh expected verdict
+  takes-refused x c q z e =
+      record {
+        turn = λ t M. ap (λ (y : Admitted). y .turn) e ∙ sym (z t) ∙ ap (λ (y : Entry). frameTurn y t frame fresh expected verdict) (sym q);
+        view = λ k i. clashed (sym (ap (λ (y : Admitted). y .turn) e) ∙ i);
+        short = subst (λ (y : Admitted). y .view .toklen ≤ 256) (sym e) (lit≤ tt);
+      }
 
-module _ (T U : Table) (f g : Found) (eh : T .header ≡ U .header) (ep : lookBy T f ≡ lookBy U g) (a : List ℕ) (time : ℕ) (frame fresh expected : List ℕ) where
-  same-commit : (m : Received) (e v : Bool) → commitStep T f a m fresh e v time ≡ commitStep U g a m fresh e v time
-  unfolding commitStep
-  same-commit m e v = λ i. onCommit factory (ep i) (eh i .own) a m (groupsOf (eh i)) fresh (crowded (eh i)) e v time
+  pub takes-unsound : E ≡ entry-is.Unsound → r ≡ refusedFrame why.Unsound → TakesFrame r h E frame fresh expected verdict
+  unfolding frameTurn
+  takes-unsound q e = takes-refused entry-is.Unsound why.Unsound q (λ t. refl) e
 
-  same-confirm : (status counter : ℕ) (v : Bool) → confirmStep T f status counter v time ≡ confirmStep U g status counter v time
-  unfolding confirmStep
-  same-confirm status counter v = λ i. onConfirm factory (ep i) status counter v time
+  pub takes-unusable : E ≡ entry-is.Unusable → r ≡ refusedFrame why.Address → TakesFrame r h E frame fresh expected verdict
+  unfolding frameTurn
+  takes-unusable q e = takes-refused entry-is.Unusable why.Address q (λ t. refl) e
 
-  same-shape : (B : Body) (v : Bool) → frameStepBy B T f a time frame fresh expected v ≡ frameStepBy B U g a time frame fresh expected v
-  unfolding frameStepBy
-  same-shape B v =
-      λ i. if isCommit B then same-commit (heardOf frame B) (entitledOf frame B expected) v i else same-confirm (confirmStatus B) (confirmCounter B) v i
+  pub takes-absent : E ≡ entry-is.Absent → AdmitsFrame r h found.Nothing frame fresh expected verdict → TakesFrame r h E frame fresh expected verdict
+  unfolding frameTurn
+  takes-absent q A =
+      record {
+        turn = λ t M. A .turn (decodeTable t) (M .absent q .header) ∙ ap (λ (y : Entry). frameTurn y t frame fresh expected verdict) (sym q);
+        view = A .view;
+        short = A .short;
+      }
 
-  pub same-step : (verdict : ℕ) → frameStep T f a time frame fresh expected verdict ≡ frameStep U g a time frame fresh expected verdict
-  unfolding frameStep
-  same-step verdict =
-      ap (λ (h : Header). frameStepBy (readBody (groupsOf h) frame) T f a time frame fresh expected (verdict is 1)) eh
-      ∙ same-shape (readBody (groupsOf (U .header)) frame) (verdict is 1)
+  pub takes-at : (k : ℕ) → E ≡ entry-is.At k → AdmitsFrame r h (found.At k) frame fresh expected verdict → TakesFrame r h E frame fresh expected verdict
+  unfolding frameTurn
+  takes-at k q A =
+      record {
+        turn = λ t M. A .turn (decodeTable t) (M .here k q .header) ∙ ap (λ (y : Entry). frameTurn y t frame fresh expected verdict) (sym q);
+        view = A .view;
+        short = A .short;
+      }
 
--- ---- in a slot
+-- a frame that goes on
+pub record Gone (t : List ℕ) (h : Header) (f : Found) (fresh expected : List ℕ) : Type 0 where
+  pub held : Held t h f
+  pub stock : Stocks h fresh
+  pub token : length expected ≡ 32
 
-two-groups : (t : List ℕ) → length (decodeTable t .header .groups) ≡ 2
-unfolding decodeTable decodeHeader headerOf
-two-groups t = refl
+goes : (T : Table) (f g : Found) (frame fresh expected : List ℕ) (verdict : ℕ) → admitFrame T f frame fresh expected verdict ≡ Go g
+    → (freshOk (groupsOf (T .header)) fresh ≡ true) × ((eqb (length expected) 32 ≡ true) × (f ≡ g))
+unfolding admitFrame
+goes T f g frame fresh expected verdict e =
+    go (freshOk (groupsOf (T .header)) fresh) (eqb (length expected) 32) (ltb 1 verdict) (view (groupsOf (T .header)) frame .sequence is 0) e
+  where
+    go : (b x v m : Bool) → (if not b then Refused why.Fresh else if not x then Refused why.Token else if v then Refused why.Verdict else if m then Refused why.Body else Go f) ≡ Go g
+        → (b ≡ true) × ((x ≡ true) × (f ≡ g))
+    go false x v m q = clashed q
+    go true false v m q = clashed q
+    go true true true m q = clashed q
+    go true true false true q = clashed q
+    go true true false false q = (refl, (refl, cc))
 
--- what a sound table's header gives a step
-steps-of : (t : List ℕ) (h : Header) (s fresh : List ℕ) → sound t ≡ true → h ≡ decodeTable t .header → commitsOk (groupsOf (decodeTable t .header)) fresh ≡ true
-    → length s ≡ recordSize width → (decodePeer width s .run .sync ≤ 6) × (decodePeer width s .run .sc ≤ 7) → Steps s h fresh
-steps-of t h s fresh w e c l r =
-    let n = count-range t h w e in
-    record {
-      whole = l;
-      sync = r .0;
-      sc = r .1;
-      some = n .0;
-      few = n .1;
-      two = ap (λ (g : Header). length (g .groups)) e ∙ two-groups t;
-      stock = ap (λ (g : Header). commitsOk (groupsOf g) fresh) e ∙ c;
-    }
+pub frame-goes : (t : List ℕ) (h : Header) (frame fresh expected : List ℕ) (verdict : ℕ) (E : Entry) (f : Found) → Met t h E → frameTurn E t frame fresh expected verdict ≡ Go f → Gone t h f fresh expected
+unfolding frameTurn
+frame-goes t h frame fresh expected verdict entry-is.Unsound f M e = clashed e
+frame-goes t h frame fresh expected verdict entry-is.Unusable f M e = clashed e
+frame-goes t h frame fresh expected verdict entry-is.Absent f M e =
+    let w = goes (decodeTable t) found.Nothing f frame fresh expected verdict e in
+    let H = subst (Held t h) (w .1 .1) (M .absent refl) in
+    record { held = H; stock = stocks t h f fresh H (w .0); token = eqb-true _ _ (w .1 .0) }
+frame-goes t h frame fresh expected verdict (entry-is.At k) f M e =
+    let w = goes (decodeTable t) (found.At k) f frame fresh expected verdict e in
+    let H = subst (Held t h) (w .1 .1) (M .here k refl) in
+    record { held = H; stock = stocks t h f fresh H (w .0); token = eqb-true _ _ (w .1 .0) }
 
-module _ (t : List ℕ) (k : ℕ) (h : Header) (fresh : List ℕ) (S : Seated t (found.At k)) (l : 32 + size * k + size ≤ length t) (e : h ≡ decodeTable t .header) where
-  pub window-steps : Bytes t → commitsOk (groupsOf (decodeTable t .header)) fresh ≡ true → Steps (take (32 + size * k + size - (32 + size * k)) (drop (32 + size * k) t)) h fresh
+-- the expected token by value
+pub token-all : (s r : List ℕ) → length s ≡ 32 → r ≡ part s 0 32 → r ≡ s
+unfolding part
+token-all s r l e = e ∙ take-all 32 s (omega (arith, l))
+
+-- ---- the step
+
+-- outside the table
+module _ (s : Step) (a : List ℕ) (x : Said) (r : Answer) (e : x ≡ saying s) where
+  pub outside-refused : x .refused ≡ true → r ≡ refused why.Full → r ≡ answersOutside s a
+  outside-refused q z = z ∙ go (s .refused) (sym (ap (λ (y : Said). y .refused) e) ∙ q)
+    where
+      go : (b : Bool) → b ≡ true → refused why.Full ≡ (if b then refused why.Full else said s a)
+      go true i = refl
+      go false i = let y : _≡_ {A = ℕ} 0 1 = cc in absurd (omega arith)
+
+  pub outside-said : x .refused ≡ false → r ≡ answered x a → r ≡ answersOutside s a
+  unfolding said
+  outside-said q z = z ∙ ap (λ (y : Said). answered y a) e ∙ go (s .refused) (sym (ap (λ (y : Said). y .refused) e) ∙ q)
+    where
+      go : (b : Bool) → b ≡ false → answered (saying s) a ≡ (if b then refused why.Full else said s a)
+      go true i = let y : _≡_ {A = ℕ} 0 1 = cc in absurd (omega arith)
+      go false i = refl
+
+-- the rule on a free record says what the step of the free record says
+pub outside-says : (h : Header) (g : Given) (m : Message) (fresh s left : List ℕ) (x : Said) → decodePeer width s ≡ noPeer
+    → Does x left (onFrame (terms g (groupsOf h)) (call g fresh) (decodePeer width s) m) → x ≡ saying (onFrame (terms g (groupsOf h)) (call g fresh) noPeer m)
+outside-says h g m fresh s left x e d = d .says ∙ ap (λ (p : Peer). saying (onFrame (terms g (groupsOf h)) (call g fresh) p m)) e
+
+-- no slot: the table stays
+outside-leaves : (t : List ℕ) (f : Found) (s : Step) (a : List ℕ) (r : Answer) → seating (decodeTable t) f ≡ found.Nothing → r ≡ answersOutside s a → Leaves r t (finishes t f s a)
+unfolding finishes finishAt
+outside-leaves t f s a r e z = subst (λ (g : Found). Leaves r t (if s .refused then refuse t why.Full else finishAt g t s a)) (sym e) (go (s .refused) z)
+  where
+    go : (b : Bool) → r ≡ (if b then refused why.Full else said s a) → Leaves r t (if b then refuse t why.Full else finishAt found.Nothing t s a)
+    go true q = record { answer = q; table = refl }
+    go false q = record { answer = q; table = refl }
+
+module _ (t : List ℕ) (h : Header) (f : Found) (H : Held t h f) (g : Given) (B : Brought g h) (m : Message) (fresh : List ℕ) (r : Answer) where
+  -- in the slot
+  pub hear-seated : (k : ℕ) (j : Found) (u v : List ℕ) (x : Said) → Bytes t → j ≡ seating (decodeTable t) f → j ≡ found.At k
+      → DoesAt x u t k (onFrame (terms g (groupsOf h)) (call g fresh) (slot (decodeTable t) k) m) → (r ≡ answered x (g .address)) × (v ≡ encodeTable (recounted (decodeTable u)))
+      → Leaves r v (finishes t f (onFrame (termsOf (decodeTable t) f) (call g fresh) (lookBy (decodeTable t) f) m) (g .address))
+  hear-seated k j u v x b p q d w =
+      let e : seating (decodeTable t) f ≡ found.At k = sym p ∙ q in
+      let T = seated-terms g h (decodeTable t) f k (H .header) B e in
+      let P = look-seat t f k b (H .seated) e in
+      seat-done t f k u v (g .address) x _ _ r e (frame-seated _ _ _ m (ap (λ (y : Terms). y .full) (sym T) ∙ B .full)) (λ i. onFrame (sym T i) (call g fresh) (P i) m) d w
+
+  -- without one
+  look-none : seating (decodeTable t) f ≡ found.Nothing → lookBy (decodeTable t) f ≡ noPeer
   unfolding lookBy
-  window-steps b c =
-      let q : 32 + size * k + size - (32 + size * k) ≡ recordSize width = omega arith in
-      let m : 32 + size * k + size - (32 + size * k) ≤ length (drop (32 + size * k) t) = omega (arith, length-drop (32 + size * k) t, l) in
-      steps-of t h _ fresh (S .whole) e c (length-take-le _ _ m ∙ q) (look-range t (found.At k) _ b S (window-law t k l))
+  look-none e = ap (lookBy (decodeTable t)) (seat-none (decodeTable t) f e .0)
 
-  pub frame-at-does : (y : List ℕ) (x : Said) (a : List ℕ) (time : ℕ) (frame expected : List ℕ) (verdict : ℕ) → length y ≡ 32 + size * k + size - (32 + size * k)
-      → Does x y (frameStep (only h (decodePeer width (take (32 + size * k + size - (32 + size * k)) (drop (32 + size * k) t)))) (found.At 0) a time frame fresh expected verdict)
-      → DoesAt x (putMid (32 + size * k) (32 + size * k + size - (32 + size * k)) t y) t k (frameStep (decodeTable t) (found.At k) a time frame fresh expected verdict)
-  unfolding lookBy slot
-  frame-at-does y x a time frame expected verdict n d =
-      at-does t k S y x _ n (subst (Does x y) (same-step (only h _) (decodeTable t) (found.At 0) (found.At k) e (window-law t k l) a time frame fresh expected verdict) d)
+  pub hear-unseated : (j : Found) (y : Given) → j ≡ seating (decodeTable t) f → j ≡ found.Nothing → y ≡ slotless g
+      → r ≡ answersOutside (onFrame (terms y (groupsOf h)) (call y fresh) noPeer m) (y .address)
+      → Leaves r t (finishes t f (onFrame (termsOf (decodeTable t) f) (call g fresh) (lookBy (decodeTable t) f) m) (g .address))
+  hear-unseated j y p q ey z =
+      let e : seating (decodeTable t) f ≡ found.Nothing = sym p ∙ q in
+      let T = unseated-terms g h (decodeTable t) f (H .header) B e in
+      outside-leaves t f _ (g .address) r e
+      (z ∙ ap (λ (i : Given). answersOutside (onFrame (terms i (groupsOf h)) (call i fresh) noPeer m) (i .address)) ey
+      ∙ (λ i. answersOutside (onFrame (T i) (call g fresh) (sym (look-none e) i) m) (g .address)))
 
--- ---- a record that stays unused is the empty one
+-- the step of the call
+pub frame-is : (t : List ℕ) (f : Found) (a : List ℕ) (time : ℕ) (frame fresh expected token : List ℕ) (verdict : ℕ) (h : Header) (w : View) (m : Message) (g : Given)
+    → h ≡ decodeTable t .header → w ≡ view (groupsOf h) frame → m ≡ messageOf frame w → token ≡ expected → g ≡ givenBy h a time token (verdict is 1)
+    → onFrame (termsOf (decodeTable t) f) (call g fresh) (lookBy (decodeTable t) f) m ≡ frameStep (decodeTable t) f a time frame fresh expected verdict
+unfolding frameStep message
+frame-is t f a time frame fresh expected token verdict h w m g eh ew em et eg =
+    let M : m ≡ messageOf frame (view (groupsOf (decodeTable t .header)) frame) = em ∙ ap (messageOf frame) (ew ∙ ap (λ (x : Header). view (groupsOf x) frame) eh) in
+    let C : call g fresh ≡ brings a time fresh expected (verdict is 1) = ap (λ (x : Given). call x fresh) eg ∙ ap (λ (x : List ℕ). brings a time fresh x (verdict is 1)) et in
+    λ i. onFrame (termsOf (decodeTable t) f) (C i) (lookBy (decodeTable t) f) (M i)
 
-module _ (a : List ℕ) (time : ℕ) where
-  idle-kept : (m : Received) (fresh : List ℕ) (c e v : Bool) → onCommitIdle factory noPeer a m fresh c e v time .peer .used ≡ 0 → onCommitIdle factory noPeer a m fresh c e v time .peer ≡ noPeer
-  unfolding dropping answering forming formingFresh noPeer noRun noLink
-  idle-kept m fresh c e v =
-      idle-outcomes (λ s. s .peer .used ≡ 0 → s .peer ≡ noPeer) factory noPeer a m fresh c e v time
-      (λ u. refl) (λ p q u. refl) (λ p q r u. refl) (λ o u. absurd (omega (arith, u)))
+-- what the rule asks of what it is handed
+pub heard-short : (frame : List ℕ) (v : View) (m : Message) → m ≡ messageOf frame v → v .toklen ≤ 256 → m .toklen ≤ 256
+unfolding messageOf
+heard-short frame v m e h = subst (λ (x : Message). x .toklen ≤ 256) (sym e) h
 
-  module _ (T : Table) (frame fresh expected : List ℕ) where
-    commit-kept : (m : Received) (e v : Bool) → commitStep T found.Nothing a m fresh e v time .peer .used ≡ 0 → commitStep T found.Nothing a m fresh e v time .peer ≡ noPeer
-    unfolding commitStep lookBy onCommit noPeer noRun
-    commit-kept m e v u = idle-kept m (freshFor (groupsOf (T .header)) fresh (m .group)) (crowded (T .header)) e v u
+pub given-brought : (h : Header) (a : List ℕ) (time : ℕ) (expected : List ℕ) (v : Bool) (g : Given) → g ≡ givenBy h a time expected v → Brought g h
+given-brought h a time expected v g e = subst (λ (x : Given). Brought x h) (sym e) (brought h a time expected v)
 
-    confirm-kept : (status counter : ℕ) (v : Bool) → confirmStep T found.Nothing status counter v time .peer ≡ noPeer
-    unfolding confirmStep lookBy onConfirm dropping noPeer noRun noLink
-    confirm-kept status counter v = refl
+pub receive-goes : (t a frame fresh expected : List ℕ) (verdict : ℕ) (e : Entrance) → Enters e t a → (A : Admitted) → TakesFrame A (e .header) (e .entry) frame fresh expected verdict
+    → (f : Found) → A .turn ≡ Go f → Gone t (e .header) f fresh expected
+receive-goes t a frame fresh expected verdict e E A K f q = frame-goes t (e .header) frame fresh expected verdict (e .entry) f (enters-met t a e E) (sym (K .turn t (enters-met t a e E)) ∙ q)
 
-    shape-kept : (B : Body) (v : Bool) → frameStepBy B T found.Nothing a time frame fresh expected v .peer .used ≡ 0 → frameStepBy B T found.Nothing a time frame fresh expected v .peer ≡ noPeer
-    unfolding frameStepBy
-    shape-kept B v = go (isCommit B)
-      where
-        go : (b : Bool) → (if b then commitStep T found.Nothing a (heardOf frame B) fresh (entitledOf frame B expected) v time else confirmStep T found.Nothing (confirmStatus B) (confirmCounter B) v time) .peer .used ≡ 0
-            → (if b then commitStep T found.Nothing a (heardOf frame B) fresh (entitledOf frame B expected) v time else confirmStep T found.Nothing (confirmStatus B) (confirmCounter B) v time) .peer ≡ noPeer
-        go true u = commit-kept (heardOf frame B) (entitledOf frame B expected) v u
-        go false u = confirm-kept (confirmStatus B) (confirmCounter B) v
+-- the call, by what its entry came to
+module _ (t a : List ℕ) (time : ℕ) (frame fresh expected : List ℕ) (verdict : ℕ) (e : Entrance) (E : Enters e t a) (A : Admitted)
+    (K : TakesFrame A (e .header) (e .entry) frame fresh expected verdict) (r : Answer) where
+  turn-is : A .turn ≡ frameTurn (entry t a) t frame fresh expected verdict
+  turn-is = K .turn t (enters-met t a e E) ∙ ap (λ (y : Entry). frameTurn y t frame fresh expected verdict) (E .entry)
 
-    frame-kept : (verdict : ℕ) → frameStep T found.Nothing a time frame fresh expected verdict .peer .used ≡ 0 → frameStep T found.Nothing a time frame fresh expected verdict .peer ≡ noPeer
-    unfolding frameStep
-    frame-kept verdict u = shape-kept (readBody (groupsOf (T .header)) frame) (verdict is 1) u
+  pub receive-refused : (c : Refusal) → A .turn ≡ Refused c → r ≡ refused c → Leaves r t (receives t a time frame fresh expected verdict)
+  unfolding receives
+  receive-refused c q z = turned-refused _ _ t a (A .turn) turn-is r c q z
 
--- ---- where the record lies
-
-seats-none : (T : Table) (f : Found) → seating T f ≡ found.Nothing → (f ≡ found.Nothing) × (freeSlot T ≡ found.Nothing)
-unfolding seating
-seats-none T (found.At j) e = let z : _≡_ {A = ℕ} 0 1 = cc in absurd (omega arith)
-seats-none T found.Nothing e = (refl, e)
-
-module _ (t : List ℕ) (f g : Found) (S : Seated t f) (p : g ≡ seating (decodeTable t) f) where
-  pub seat-seated : (k : ℕ) → g ≡ found.At k → Seated t (found.At k)
-  seat-seated k q = seat-slot t f k S (sym p ∙ q)
-
-  pub unseated : g ≡ found.Nothing → Seated t found.Nothing × (freeSlot (decodeTable t) ≡ found.Nothing)
-  unseated q = let w = seats-none (decodeTable t) f (sym p ∙ q) in (subst (Seated t) (w .0) S, w .1)
-
-  module _ (a : List ℕ) (time : ℕ) (frame fresh expected : List ℕ) (verdict : ℕ) (r : Answer) where
-    -- the step in the slot, finished
-    pub hear-seated : (u v : List ℕ) (k : ℕ) (x : Said) → Bytes t → g ≡ found.At k → DoesAt x u t k (frameStep (decodeTable t) (found.At k) a time frame fresh expected verdict)
-        → (r ≡ answered x a) × (v ≡ encodeTable (recounted (decodeTable u))) → Leaves r v (finishes t f (frameStep (decodeTable t) f a time frame fresh expected verdict) a)
-    hear-seated u v k x b q d w =
-        let e : seating (decodeTable t) f ≡ found.At k = sym p ∙ q in
-        let z = same-step (decodeTable t) (decodeTable t) f (found.At k) refl (seat-look t f k S e b) a time frame fresh expected verdict in
-        seat-done t f k S e u v a x _ _ r b z (new f) d w
-      where
-        new : (j : Found) → j ≡ found.Nothing → frameStep (decodeTable t) j a time frame fresh expected verdict .peer .used ≡ 0 → frameStep (decodeTable t) j a time frame fresh expected verdict .peer ≡ noPeer
-        new (found.At j) e = let z : _≡_ {A = ℕ} 0 1 = cc in absurd (omega arith)
-        new found.Nothing e = frame-kept a time (decodeTable t) frame fresh expected verdict
-
-    pub hear-unseated : (v : List ℕ) → g ≡ found.Nothing → Leaves r v (finishes t found.Nothing (frameStep (decodeTable t) found.Nothing a time frame fresh expected verdict) a)
-        → Leaves r v (finishes t f (frameStep (decodeTable t) f a time frame fresh expected verdict) a)
-    hear-unseated v q l =
-        subst (λ (j : Found). Leaves r v (finishes t j (frameStep (decodeTable t) j a time frame fresh expected verdict) a)) (sym (seats-none (decodeTable t) f (sym p ∙ q) .0)) l
-
--- ---- outside the table
-
-first-octet : (s : List ℕ) → num (part s 0 1) ≡ getD s 0 0
-unfolding part num
-first-octet [] = refl
-first-octet (x ∷ s) = omega arith
-
-used-octet : (s : List ℕ) → decodePeer width s .used ≡ getD s 0 0
-used-octet s = ap (λ (p : Peer). p .used) (peer-at width s) ∙ first-octet s
-
-module _ (t : List ℕ) (h : Header) (s fresh : List ℕ) (w : sound t ≡ true) (e : h ≡ decodeTable t .header) (z : decodePeer width s ≡ noPeer) where
-  pub blank-steps : length s ≡ recordSize width → commitsOk (groupsOf (decodeTable t .header)) fresh ≡ true → Steps s h fresh
-  unfolding noPeer noRun
-  blank-steps l c = steps-of t h s fresh w e c l (rw z (lit≤ tt), rw z (lit≤ tt))
-
-  module _ (a : List ℕ) (time : ℕ) (frame expected : List ℕ) (verdict : ℕ) (x : Said) (y : List ℕ)
-      (d : Does x y (frameStep (only h (decodePeer width s)) (found.At 0) a time frame fresh expected verdict)) where
-    blank-does : Does x y (frameStep (decodeTable t) found.Nothing a time frame fresh expected verdict)
-    unfolding lookBy slot
-    blank-does = subst (Does x y) (same-step (only h (decodePeer width s)) (decodeTable t) (found.At 0) found.Nothing e z a time frame fresh expected verdict) d
-
-    left-used : frameStep (decodeTable t) found.Nothing a time frame fresh expected verdict .peer .used ≡ getD y 0 0
-    left-used = ap (λ (p : Peer). p .used) (sym (blank-does .leaves)) ∙ used-octet y
-
-    pub outside-said : (r : Answer) → getD y 0 0 ≡ 0 → r ≡ answered x a → Leaves r t (finishes t found.Nothing (frameStep (decodeTable t) found.Nothing a time frame fresh expected verdict) a)
-    outside-said r u q = full-said t a _ x r (left-used ∙ u) (blank-does .says) q
-
-    pub outside-refused : (r : Answer) → freeSlot (decodeTable t) ≡ found.Nothing → (getD y 0 0 ≡ 0 → ⊥) → r ≡ refused why.Full
-        → Leaves r t (finishes t found.Nothing (frameStep (decodeTable t) found.Nothing a time frame fresh expected verdict) a)
-    unfolding seating
-    outside-refused r n u q = full-refused t a _ r n (λ i. u (sym left-used ∙ i)) q
+  pub receive-went : (f : Found) (m : Message) (token : List ℕ) (g : Given) (u : List ℕ) → A .turn ≡ Go f → m ≡ messageOf frame (A .view) → token ≡ expected → g ≡ givenBy (e .header) a time token (verdict is 1)
+      → Leaves r u (finishes t f (onFrame (termsOf (decodeTable t) f) (call g fresh) (lookBy (decodeTable t) f) m) (g .address)) → Leaves r u (receives t a time frame fresh expected verdict)
+  unfolding receives
+  receive-went f m token g u q em et eg l =
+      let G = receive-goes t a frame fresh expected verdict e E A K f q in
+      let S = frame-is t f a time frame fresh expected token verdict (e .header) (A .view) m g (G .held .header) (K .view f q) em et eg in
+      let L : Leaves r u (finishes t f (frameStep (decodeTable t) f a time frame fresh expected verdict) a) = subst (λ (x : List ℕ). Leaves r u (finishes t f (frameStep (decodeTable t) f a time frame fresh expected verdict) x)) (ap (λ (x : Given). x .address) eg)
+      (subst (λ (x : Step). Leaves r u (finishes t f x (g .address))) S l) in
+      turned-go _ _ t a (A .turn) turn-is r f _ u q refl L

@@ -1,3 +1,2 @@
--- What the contracts of `engine` cite.
-pub mod Calls
+-- What the contracts of `engine` cite beside the calls.
 pub mod InSlot

@@ -1,12 +1,12 @@
 -- Laws of the interface: what each function's cases show of their definitions.
 use mathlib.Core.Path.{_≡_, refl, sym, ap, _∙_, subst}
-use mathlib.Core.Bool.{Bool, true, false, not, _&&_}
+use mathlib.Core.Bool.{Bool, true, false, not}
 use mathlib.Core.List.{List, [], _∷_, _++_, append-nil, map}
-use Prim.Native.Nat.{ℕ, _+_, _≤_, _<_}
+use Prim.Native.Nat.{ℕ, _+_, _≤_}
 use native.Mathlib.Omega.{arith}
 use lib.Dec.{eqb}
 use lib.ListN.{length, replicate, take, length-append}
-use borrow.Author.Tests.{not-true, not-false}
+use borrow.Author.Tests.{eq-eqb, ne-eqb, not-true, not-false}
 use Rattle.octets.specs.Octets.{put, part, num, oct}
 use Rattle.octets.specs.Scan.{if_then_else_}
 use Rattle.octets.proofs.Laws.{length-oct}
@@ -15,34 +15,31 @@ use Rattle.record.specs.declared.Header.{Header}
 use Rattle.record.specs.declared.Settings.{Settings}
 use Rattle.record.specs.Layout.{groupsOf}
 use Rattle.record.proofs.Codec.{lay, lay-all}
-use Rattle.acts.specs.declared.Event.{Event}
-use Rattle.acts.specs.declared.Frame.{Frame}
-use Rattle.acts.specs.declared.Frames.{Frames}
-use Rattle.acts.specs.declared.Frames.the-variants as frames
-use Rattle.acts.specs.Acts.{eventNumber}
+use Rattle.rules.specs.declared.Frame.{Frame}
+use Rattle.rules.specs.declared.Frames.{Frames}
+use Rattle.rules.specs.declared.Frames.the-variants as frames
+use Rattle.rules.specs.Book.{eventNumber}
 use Rattle.groups.specs.Groups.{width, commitLength}
 use Rattle.groups.proofs.Laws.{commit-fits}
-use Rattle.frame.specs.declared.Body.{Body}
-use Rattle.frame.specs.declared.Body.the-variants as body-is
-use Rattle.frame.specs.Frame.{readBody, commitBody, tokenRequestBody, groupRefusalBody, confirmBody}
+use Rattle.message.specs.declared.View.{View}
+use Rattle.message.specs.View.{view}
+use Rattle.frame.specs.Frame.{commitBody, tokenRequestBody, groupRefusalBody, confirmBody}
 use Rattle.frame.specs.Writing.{Drawn, Octets, Outside, drawCommit, drawTokenRequest, drawGroupRefusal, drawConfirm, drawCommits, drawConfirms, partsBody}
 use Rattle.frame.proofs.Laws.{length-body}
-use Rattle.frame.proofs.Shapes.{commit-shape, token-request-shape}
 use Rattle.frame.proofs.Wrote.{CommitParts, commit-parts, TokenRequestParts, token-request-parts, group-refusal-parts, ConfirmParts, confirm-parts}
 use Rattle.record.specs.declared.Peer.{Peer}
-use Rattle.table.specs.Table.{decodeTable, sound, slot}
-use Rattle.table.proofs.Laws.{sound-by}
-use Rattle.turn.specs.declared.Answer.{Answer}
-use Rattle.turn.specs.declared.Outcome.{Outcome}
-use Rattle.turn.specs.Turn.{Left, Leaves, returned, refused, refuse}
-use Rattle.turn.specs.declared.Refusal.{Refusal}
-use Rattle.turn.specs.declared.Refusal.the-variants as why
-use Rattle.engine.specs.Calls.{initializes}
+use Rattle.table.specs.Table.{decodeTable, sound, Looked}
+use Rattle.table.proofs.Laws.{looked-sound, looked-header}
+use Rattle.answers.specs.declared.Answer.{Answer}
+use Rattle.answers.specs.Answers.{Left, Leaves, returned, refused}
+use Rattle.answers.specs.declared.Refusal.{Refusal}
+use Rattle.answers.specs.declared.Refusal.the-variants as why
+use Rattle.calls.specs.Calls.{initializes}
 use Rattle.writer.specs.declared.Wrote.{Wrote}
 use Rattle.writer.specs.declared.Wrote.the-variants as wrote
 use Rattle.writer.specs.Writer.{LeftOut, LeavesOut, writesParts, recordCommit, recordConfirm, recordBody, writesRecord}
 use Rattle.writer.proofs.Theorems.{Draws, outside, short, whole, FromParts, malformed, made, FromRecord, unsound, unusable, absent, drawn, parts-one, record-one}
-use Rattle.sae.specs.Interface.{settingsOf, reservedZero, initializesFrom, noneDueFlag, frameOctets, framedOctets, framesOctets, answerOctets, isRefused, answerLeft, Returns, partsOf, partsOctets, ShortToken, readNumberBy, readNumber, readParts, Reads, wroteNumber, writtenLeft, Counted, Writes}
+use Rattle.sae.specs.Interface.{settingsOf, reservedZero, initializesFrom, noneDueFlag, frameOctets, framedOctets, framesOctets, answerOctets, isRefused, answerLeft, Returns, hasToken, tokenAt, hasValue, restAt, partsOctets, readNumber, readParts, Reads, wroteNumber, writtenLeft, Counted, Writes}
 
 -- ---- octets, one store for each field
 
@@ -99,12 +96,12 @@ length-frames f fs e = ap length e ∙ go f
     go (frames.Two g h) = framed-length 2 (frameOctets g) (frameOctets h) (frame-length g) (frame-length h)
 
 pub answer-laid : (x : Answer) (none event : ℕ) (fs z a b c d e : List ℕ) → none ≡ noneDueFlag (x .outcome) → event ≡ eventNumber (x .event) → fs ≡ framesOctets (x .frames) → length (x .address) ≡ 6 → length fs ≡ 18
-    → length z ≡ 28 → a ≡ put z 0 (oct 1 none) → b ≡ put a 1 (oct 1 event) → c ≡ put b 2 (oct 2 (x .fresh)) → d ≡ put c 4 (x .address) → e ≡ put d 10 fs → e ≡ answerOctets x
+    → length z ≡ 28 → a ≡ put z 0 (oct 1 none) → b ≡ put a 1 (oct 1 event) → c ≡ put b 2 (oct 2 (x .afresh)) → d ≡ put c 4 (x .address) → e ≡ put d 10 fs → e ≡ answerOctets x
 unfolding answerOctets lay glue total
 answer-laid x none event fs z a b c d e en ee ef ha hf hz ea eb ec ed eg =
-    let k : e ≡ lay 0 (1 ∷ 1 ∷ 2 ∷ 6 ∷ 18 ∷ []) (oct 1 none ∷ oct 1 event ∷ oct 2 (x .fresh) ∷ x .address ∷ fs ∷ []) z = cc in
-    let w : map length (oct 1 none ∷ oct 1 event ∷ oct 2 (x .fresh) ∷ x .address ∷ fs ∷ []) ≡ 1 ∷ 1 ∷ 2 ∷ 6 ∷ 18 ∷ [] = cc (length-oct 1 none, length-oct 1 event, length-oct 2 (x .fresh)) in
-    k ∙ lay-all (1 ∷ 1 ∷ 2 ∷ 6 ∷ 18 ∷ []) (oct 1 none ∷ oct 1 event ∷ oct 2 (x .fresh) ∷ x .address ∷ fs ∷ []) z w hz ∙ rw (append-nil, en, ee, ef)
+    let k : e ≡ lay 0 (1 ∷ 1 ∷ 2 ∷ 6 ∷ 18 ∷ []) (oct 1 none ∷ oct 1 event ∷ oct 2 (x .afresh) ∷ x .address ∷ fs ∷ []) z = cc in
+    let w : map length (oct 1 none ∷ oct 1 event ∷ oct 2 (x .afresh) ∷ x .address ∷ fs ∷ []) ≡ 1 ∷ 1 ∷ 2 ∷ 6 ∷ 18 ∷ [] = cc (length-oct 1 none, length-oct 1 event, length-oct 2 (x .afresh)) in
+    k ∙ lay-all (1 ∷ 1 ∷ 2 ∷ 6 ∷ 18 ∷ []) (oct 1 none ∷ oct 1 event ∷ oct 2 (x .afresh) ∷ x .address ∷ fs ∷ []) z w hz ∙ rw (append-nil, en, ee, ef)
 
 -- ---- the answer, and what is returned
 
@@ -138,38 +135,69 @@ module _ (t own s : List ℕ) (b : Bool) (p : b ≡ reservedZero s) where
 
 -- ---- the parts of a frame
 
-pub parts-laid : (q x g n at l v : ℕ) (z a b c d e f h : List ℕ) → length z ≡ 20 → a ≡ put z 0 (oct 2 q) → b ≡ put a 2 (oct 2 x) → c ≡ put b 4 (oct 2 g) → d ≡ put c 6 (oct 2 n)
-    → e ≡ put d 8 (oct 4 at) → f ≡ put e 12 (oct 4 l) → h ≡ put f 16 (oct 4 v) → h ≡ partsOf q x g n at l v
-unfolding partsOf lay glue total
-parts-laid q x g n at l v z a b c d e f h hz ea eb ec ed ee ef eh =
-    let k : h ≡ lay 0 (2 ∷ 2 ∷ 2 ∷ 2 ∷ 4 ∷ 4 ∷ 4 ∷ []) (oct 2 q ∷ oct 2 x ∷ oct 2 g ∷ oct 2 n ∷ oct 4 at ∷ oct 4 l ∷ oct 4 v ∷ []) z = cc in
-    let w : map length (oct 2 q ∷ oct 2 x ∷ oct 2 g ∷ oct 2 n ∷ oct 4 at ∷ oct 4 l ∷ oct 4 v ∷ []) ≡ 2 ∷ 2 ∷ 2 ∷ 2 ∷ 4 ∷ 4 ∷ 4 ∷ [] =
-    cc (length-oct 2 q, length-oct 2 x, length-oct 2 g, length-oct 2 n, length-oct 4 at, length-oct 4 l, length-oct 4 v) in
-    k ∙ lay-all (2 ∷ 2 ∷ 2 ∷ 2 ∷ 4 ∷ 4 ∷ 4 ∷ []) (oct 2 q ∷ oct 2 x ∷ oct 2 g ∷ oct 2 n ∷ oct 4 at ∷ oct 4 l ∷ oct 4 v ∷ []) z w hz ∙ simp append-nil
+pub token-by : (v : View) (b : Bool) → b ≡ hasToken v → b ≡ true → 8 ≡ tokenAt v
+unfolding tokenAt
+token-by v b p q = let z : hasToken v ≡ true = sym p ∙ q in rw z
 
-pub parts-by : (b x : Body) (old r : List ℕ) → b ≡ x → r ≡ partsOctets x old → r ≡ partsOctets b old
-parts-by b x old r e q = q ∙ ap (λ (y : Body). partsOctets y old) (sym e)
+pub token-not : (v : View) (b : Bool) → b ≡ hasToken v → b ≡ false → 0 ≡ tokenAt v
+unfolding tokenAt
+token-not v b p q = let z : hasToken v ≡ false = sym p ∙ q in rw z
+
+pub rest-scalar : (v : View) → v .listed ≡ true → 8 + v .toklen ≡ restAt v
+unfolding restAt
+rest-scalar v q = rw q
+
+pub rest-value : (v : View) (b : Bool) → v .listed ≡ false → b ≡ hasValue v → b ≡ true → 8 ≡ restAt v
+unfolding restAt
+rest-value v b l p q = let z : hasValue v ≡ true = sym p ∙ q in rw (l, z)
+
+pub rest-not : (v : View) (b : Bool) → v .listed ≡ false → b ≡ hasValue v → b ≡ false → 0 ≡ restAt v
+unfolding restAt
+rest-not v b l p q = let z : hasValue v ≡ false = sym p ∙ q in rw (l, z)
+
+laid : (q x g n i l k : ℕ) (z a b c d e f h : List ℕ) → length z ≡ 20 → a ≡ put z 0 (oct 2 q) → b ≡ put a 2 (oct 2 x) → c ≡ put b 4 (oct 2 g) → d ≡ put c 6 (oct 2 n)
+    → e ≡ put d 8 (oct 4 i) → f ≡ put e 12 (oct 4 l) → h ≡ put f 16 (oct 4 k)
+    → h ≡ oct 2 q ++ (oct 2 x ++ (oct 2 g ++ (oct 2 n ++ (oct 4 i ++ (oct 4 l ++ oct 4 k)))))
+unfolding lay glue total
+laid q x g n i l k z a b c d e f h hz ea eb ec ed ee ef eh =
+    let s : h ≡ lay 0 (2 ∷ 2 ∷ 2 ∷ 2 ∷ 4 ∷ 4 ∷ 4 ∷ []) (oct 2 q ∷ oct 2 x ∷ oct 2 g ∷ oct 2 n ∷ oct 4 i ∷ oct 4 l ∷ oct 4 k ∷ []) z = cc in
+    let w : map length (oct 2 q ∷ oct 2 x ∷ oct 2 g ∷ oct 2 n ∷ oct 4 i ∷ oct 4 l ∷ oct 4 k ∷ []) ≡ 2 ∷ 2 ∷ 2 ∷ 2 ∷ 4 ∷ 4 ∷ 4 ∷ [] =
+    cc (length-oct 2 q, length-oct 2 x, length-oct 2 g, length-oct 2 n, length-oct 4 i, length-oct 4 l, length-oct 4 k) in
+    s ∙ lay-all (2 ∷ 2 ∷ 2 ∷ 2 ∷ 4 ∷ 4 ∷ 4 ∷ []) (oct 2 q ∷ oct 2 x ∷ oct 2 g ∷ oct 2 n ∷ oct 4 i ∷ oct 4 l ∷ oct 4 k ∷ []) z w hz ∙ simp append-nil
+
+pub parts-laid : (v : View) (at rest : ℕ) (z a b c d e f h : List ℕ) → at ≡ tokenAt v → rest ≡ restAt v → length z ≡ 20 → a ≡ put z 0 (oct 2 (v .sequence))
+    → b ≡ put a 2 (oct 2 (v .status)) → c ≡ put b 4 (oct 2 (v .group)) → d ≡ put c 6 (oct 2 (v .counter)) → e ≡ put d 8 (oct 4 at)
+    → f ≡ put e 12 (oct 4 (v .toklen)) → h ≡ put f 16 (oct 4 rest) → h ≡ partsOctets v
+unfolding partsOctets
+parts-laid v at rest z a b c d e f h et er hz ea eb ec ed ee ef eh =
+    laid (v .sequence) (v .status) (v .group) (v .counter) at (v .toklen) rest z a b c d e f h hz ea eb ec ed ee ef eh ∙ rw (et, er)
 
 -- ---- a body read
 
-pub short-token : (gs s : List ℕ) (x : Body) → x ≡ readBody gs s → ShortToken x
-short-token gs s x e = record {
-  commit = λ g n q. commit-shape gs s g n (sym e ∙ q) .token;
-  request = λ g n q. token-request-shape gs s g n (sym e ∙ q) .token;
-}
-
-module _ (t frame given : List ℕ) (b : Bool) (p : b ≡ sound t) where
+module _ (t frame given : List ℕ) (b : Bool) (h : Header) (L : Looked t b h) where
   pub read-unsound : not b ≡ true → Reads 2 given given t frame
   unfolding readNumber readParts
-  read-unsound q = let z : sound t ≡ false = sym p ∙ not-true b q in record { returns = rw z; leaves = rw z }
+  read-unsound q = let z : sound t ≡ false = sym (L .right) ∙ not-true b q in record { returns = rw z; leaves = rw z }
 
-  pub read-body : (h : Header) (x : Body) (r : ℕ) (parts : List ℕ) → not b ≡ false → h ≡ decodeTable t .header → x ≡ readBody (groupsOf h) frame
-      → r ≡ readNumberBy x → parts ≡ partsOctets x given → Reads r parts given t frame
-  unfolding readNumber readParts
-  read-body h x r parts q e k w v =
-      let z : sound t ≡ true = sound-by t b p q in
-      let y : x ≡ readBody (groupsOf (decodeTable t .header)) frame = k ∙ ap (λ (i : Header). readBody (groupsOf i) frame) e in
-      record { returns = rw (z, ← y) w; leaves = rw (z, ← y) v }
+  module _ (v : View) (q : not b ≡ false) (k : v ≡ view (groupsOf h) frame) where
+    seen : v ≡ view (groupsOf (decodeTable t .header)) frame
+    seen = k ∙ ap (λ (i : Header). view (groupsOf i) frame) (looked-header t b h L q)
+
+    pub read-malformed : v .sequence ≡ 0 → Reads 7 given given t frame
+    unfolding readNumber readParts
+    read-malformed e =
+        let z : sound t ≡ true = looked-sound t b h L q in
+        let n : eqb (v .sequence) 0 ≡ true = eq-eqb (v .sequence) 0 e in
+        let y : v ≡ view (groupsOf (decodeTable t .header)) frame = seen in
+        record { returns = rw (z, ← y, n); leaves = rw (z, ← y, n) }
+
+    pub read-parts : (parts : List ℕ) → (v .sequence ≡ 0 → ⊥) → parts ≡ partsOctets v → Reads 0 parts given t frame
+    unfolding readNumber readParts
+    read-parts parts d w =
+        let z : sound t ≡ true = looked-sound t b h L q in
+        let n : eqb (v .sequence) 0 ≡ false = ne-eqb (v .sequence) 0 d in
+        let y : v ≡ view (groupsOf (decodeTable t .header)) frame = seen in
+        record { returns = rw (z, ← y, n); leaves = rw (z, ← y, n) w }
 
 -- ---- a frame has at most 408 octets
 

@@ -1,5 +1,5 @@
 -- A call that returns a number other than 0 leaves every lent octet as it was: the table, the buffer, the answer, the parts and the length written.
-use mathlib.Core.Path.{_≡_, refl, sym, ap, _∙_}
+use mathlib.Core.Path.{_≡_, refl, ap, _∙_}
 use mathlib.Core.Bool.{Bool, true, false}
 use mathlib.Core.List.{List}
 use Prim.Native.Nat.{ℕ}
@@ -10,29 +10,24 @@ use Rattle.octets.specs.declared.Found.{Found}
 use Rattle.octets.specs.declared.Found.the-variants as found
 use Rattle.record.specs.declared.Settings.{Settings}
 use Rattle.record.specs.Layout.{groupsOf}
-use Rattle.acts.specs.declared.Step.{Step}
-use Rattle.frame.specs.declared.Body.{Body}
-use Rattle.frame.specs.declared.Body.the-variants as body
-use Rattle.frame.specs.Frame.{readBody}
+use Rattle.rules.specs.Book.{_is_, Step}
+use Rattle.message.specs.View.{view}
 use Rattle.table.specs.Table.{decodeTable, sound}
-use Rattle.table.specs.Fresh.{freshOk, initial}
-use Rattle.turn.specs.declared.Answer.{Answer}
-use Rattle.turn.specs.declared.Outcome.{Outcome}
-use Rattle.turn.specs.declared.Outcome.the-variants as outcome
-use Rattle.turn.specs.declared.Refusal.{Refusal}
-use Rattle.turn.specs.declared.Refusal.the-variants as why
-use Rattle.turn.specs.declared.Turn.{Turn}
-use Rattle.turn.specs.declared.Turn.the-variants as turn
-use Rattle.turn.specs.declared.Seat.{Seat}
-use Rattle.turn.specs.declared.Seat.the-variants as seat-is
-use Rattle.turn.specs.Turn.{Left, number, returned, refused, noneDue, said, quiet, seat, finishBy, finishes, turned}
-use Rattle.due.specs.Due.{dueSlot}
-use Rattle.engine.specs.Calls.{initializes, initiates, kills, receives, expiresBy, expires}
+use Rattle.table.specs.Initial.{initialOk, initial}
+use Rattle.answers.specs.declared.Answer.{Answer}
+use Rattle.answers.specs.declared.Outcome.{Outcome}
+use Rattle.answers.specs.declared.Outcome.the-variants as outcome
+use Rattle.answers.specs.declared.Refusal.{Refusal}
+use Rattle.answers.specs.declared.Refusal.the-variants as why
+use Rattle.answers.specs.declared.Turn.{Turn}
+use Rattle.answers.specs.declared.Turn.the-variants as turn
+use Rattle.answers.specs.Answers.{Left, returned, refused, refuse, said, quiet, seating, finishAt, finishes, turned}
+use Rattle.calls.specs.Calls.{initializes, initiates, kills, receives, dueSlot, expiresBy, expires}
 use Rattle.writer.specs.declared.Wrote.{Wrote}
 use Rattle.writer.specs.declared.Wrote.the-variants as wrote
 use Rattle.writer.specs.Writer.{LeftOut, writesParts, writesRecord}
 use Rattle.writer.proofs.Theorems.{parts-refused, record-refused}
-use Rattle.sae.specs.Interface.{reservedZero, settingsOf, initializesFrom, isRefused, answerLeft, Returns, readNumberBy, readNumber, readParts, partsOctets, Reads, wroteNumber, writtenLeft, Writes}
+use Rattle.sae.specs.Interface.{reservedZero, settingsOf, initializesFrom, answerLeft, Returns, readNumber, readParts, partsOctets, Reads, wroteNumber, writtenLeft, Writes}
 
 -- ---- calls
 
@@ -43,20 +38,23 @@ pub record Refuses (t : List ℕ) (l : Left) : Type 0 where
 unchanged : (t : List ℕ) (a : Answer) → Refuses t (record { answer = a; table = t })
 unchanged t a = record { leaves = λ c e. refl }
 
-finish-refuses : (t a : List ℕ) (s : Step) (x : Seat) → Refuses t (finishBy x t s a)
-unfolding finishBy said
-finish-refuses t a s (seat-is.At k) = record { leaves = λ c e. let z : _≡_ {A = ℕ} 0 1 = cc in absurd (omega arith) }
-finish-refuses t a s seat-is.Nowhere = unchanged t _
-finish-refuses t a s seat-is.Full = unchanged t _
+finish-refuses : (t a : List ℕ) (f : Found) (s : Step) → Refuses t (finishes t f s a)
+unfolding finishes finishAt said
+finish-refuses t a f s = go (s .refused) (seating (decodeTable t) f)
+  where
+    go : (b : Bool) (x : Found) → Refuses t (if b then refuse t why.Full else finishAt x t s a)
+    go true x = unchanged t _
+    go false (found.At k) = record { leaves = λ c e. let z : _≡_ {A = ℕ} 0 1 = cc in absurd (omega arith) }
+    go false found.Nothing = unchanged t _
 
 turned-refuses : (w : Turn) (g : Found → Step) (t a : List ℕ) → Refuses t (turned w g t a)
-unfolding turned finishes
+unfolding turned
 turned-refuses (turn.Refused c) g t a = unchanged t _
-turned-refuses (turn.Go f) g t a = finish-refuses t a (g f) (seat (decodeTable t) f (g f .peer .used))
+turned-refuses (turn.Go f) g t a = finish-refuses t a f (g f)
 
 pub initialize-refuses : (t own s : List ℕ) → Refuses t (initializesFrom t own s)
 unfolding initializesFrom initializes quiet
-initialize-refuses t own s = go (reservedZero s) (freshOk (settingsOf s) own (length t))
+initialize-refuses t own s = go (reservedZero s) (initialOk (settingsOf s) own (length t))
   where
     go : (a b : Bool) → Refuses t (if a then (if b then record { answer = quiet own; table = initial (settingsOf s) own t } else record { answer = refused why.Settings; table = t }) else record { answer = refused why.Settings; table = t })
     go true true = record { leaves = λ c e. let z : _≡_ {A = ℕ} 0 1 = cc in absurd (omega arith) }
@@ -76,15 +74,15 @@ unfolding receives
 receive-refuses t a time frame fresh expected verdict = turned-refuses _ _ t a
 
 due-refuses : (t : List ℕ) (time : ℕ) (f : Found) → Refuses t (expiresBy f t time)
-unfolding expiresBy finishes
+unfolding expiresBy
 due-refuses t time found.Nothing = unchanged t _
-due-refuses t time (found.At k) = finish-refuses t _ _ _
+due-refuses t time (found.At k) = finish-refuses t _ (found.At k) _
 
 pub expire-refuses : (t : List ℕ) (time : ℕ) → Refuses t (expires t time)
 unfolding expires
 expire-refuses t time = go (sound t) (dueSlot (decodeTable t) time)
   where
-    go : (b : Bool) (f : Found) → Refuses t (if b then expiresBy f t time else record { answer = refused why.Form; table = t })
+    go : (b : Bool) (f : Found) → Refuses t (if b then expiresBy f t time else record { answer = refused why.Unsound; table = t })
     go true f = due-refuses t time f
     go false f = unchanged t _
 
@@ -105,19 +103,14 @@ call-refused t u answer given r l f e d = go (l .answer .outcome) refl
 -- ---- the reader
 
 pub read-refused : (r : ℕ) (parts given t frame : List ℕ) → Reads r parts given t frame → (r ≡ 0 → ⊥) → parts ≡ given
-unfolding readNumber readParts partsOctets
-read-refused r parts given t frame e d = go (sound t) (readBody (groupsOf (decodeTable t .header)) frame) (e .returns) (e .leaves)
+unfolding readNumber readParts
+read-refused r parts given t frame e d = go (sound t) (view (groupsOf (decodeTable t .header)) frame .sequence is 0) (e .returns) (e .leaves)
   where
-    go : (b : Bool) (x : Body) → r ≡ (if b then readNumberBy x else 2) → parts ≡ (if b then partsOctets x given else given) → parts ≡ given
-    go false x n p = p
-    go true (body.Commit g m) n p = absurd (d n)
-    go true (body.Unsupported g) n p = absurd (d n)
-    go true (body.TokenRequest g m) n p = absurd (d n)
-    go true (body.GroupRefusal g) n p = absurd (d n)
-    go true (body.OtherCommit s) n p = absurd (d n)
-    go true (body.Confirm m) n p = absurd (d n)
-    go true (body.OtherConfirm s) n p = absurd (d n)
-    go true body.Malformed n p = p
+    go : (b m : Bool) → r ≡ (if b then (if m then 7 else 0) else 2)
+        → parts ≡ (if b then (if m then given else partsOctets (view (groupsOf (decodeTable t .header)) frame)) else given) → parts ≡ given
+    go false m n p = p
+    go true true n p = p
+    go true false n p = absurd (d n)
 
 -- ---- the writers
 

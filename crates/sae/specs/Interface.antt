@@ -1,29 +1,26 @@
 -- The octets of the C interface: settings in, answers and parts out. Every field is little-endian.
 use mathlib.Core.Path.{_≡_}
-use mathlib.Core.Bool.{Bool, true, false, not, _&&_}
+use mathlib.Core.Bool.{Bool, true, false, _&&_, _||_}
 use mathlib.Core.List.{List, [], _∷_, _++_}
 use Prim.Native.Nat.{ℕ, _+_, _≤_}
-use lib.Dec.{eqb}
-use lib.ListN.{length, getD, replicate}
+use lib.ListN.{replicate}
 use Rattle.octets.specs.Octets.{part, num, oct, allZero}
 use Rattle.octets.specs.Scan.{if_then_else_}
 use Rattle.record.specs.declared.Settings.{Settings}
 use Rattle.record.specs.Layout.{groupsOf}
-use Rattle.acts.specs.Acts.{eventNumber}
-use Rattle.acts.specs.declared.Frame.{Frame}
-use Rattle.acts.specs.declared.Frames.{Frames}
-use Rattle.acts.specs.declared.Frames.the-variants as frames
-use Rattle.frame.specs.declared.Body.{Body}
-use Rattle.frame.specs.declared.Body.the-variants as body
-use Rattle.frame.specs.Frame.{readBody}
+use Rattle.rules.specs.Book.{_is_, eventNumber}
+use Rattle.rules.specs.declared.Frame.{Frame}
+use Rattle.rules.specs.declared.Frames.{Frames}
+use Rattle.rules.specs.declared.Frames.the-variants as frames
+use Rattle.message.specs.declared.View.{View}
+use Rattle.message.specs.View.{view}
 use Rattle.table.specs.Table.{decodeTable, sound}
-use Rattle.turn.specs.declared.Outcome.{Outcome}
-use Rattle.turn.specs.declared.Outcome.the-variants as outcome
-use Rattle.turn.specs.declared.Answer.{Answer}
-use Rattle.turn.specs.Turn.{Left, returned, number}
-use Rattle.turn.specs.declared.Refusal.the-variants as why
-use Rattle.turn.specs.Turn.{refuse}
-use Rattle.engine.specs.Calls.{initializes}
+use Rattle.answers.specs.declared.Outcome.{Outcome}
+use Rattle.answers.specs.declared.Outcome.the-variants as outcome
+use Rattle.answers.specs.declared.Answer.{Answer}
+use Rattle.answers.specs.Answers.{Left, returned, number, refuse}
+use Rattle.answers.specs.declared.Refusal.the-variants as why
+use Rattle.calls.specs.Calls.{initializes}
 use Rattle.writer.specs.declared.Wrote.{Wrote}
 use Rattle.writer.specs.declared.Wrote.the-variants as wrote
 use Rattle.writer.specs.Writer.{LeftOut}
@@ -62,7 +59,7 @@ framesOctets (frames.One f) = framedOctets 1 (frameOctets f) (replicate 8 0)
 framesOctets (frames.Two f g) = framedOctets 2 (frameOctets f) (frameOctets g)
 
 unfoldable pub answerOctets : Answer → List ℕ
-answerOctets a = oct 1 (noneDueFlag (a .outcome)) ++ (oct 1 (eventNumber (a .event)) ++ (oct 2 (a .fresh) ++ (a .address ++ framesOctets (a .frames))))
+answerOctets a = oct 1 (noneDueFlag (a .outcome)) ++ (oct 1 (eventNumber (a .event)) ++ (oct 2 (a .afresh) ++ (a .address ++ framesOctets (a .frames))))
 
 abbrev pub isRefused : Outcome → Bool
 isRefused outcome.Done = false
@@ -81,42 +78,34 @@ pub record Returns (r : ℕ) (t answer given : List ℕ) (l : Left) : Type 0 whe
 
 -- ---- parts, 20 octets: 0–1 sequence; 2–3 status; 4–5 group; 6–7 counter; 8–11 offset and 12–15 length of the token; 16–19 offset of the scalar or of a Confirm's value
 
-unfoldable pub partsOf : ℕ → ℕ → ℕ → ℕ → ℕ → ℕ → ℕ → List ℕ
-partsOf sequence status group counter at length scalar =
-    oct 2 sequence ++ (oct 2 status ++ (oct 2 group ++ (oct 2 counter ++ (oct 4 at ++ (oct 4 length ++ oct 4 scalar)))))
+-- a supported Commit and a 76 have a token, from octet 8 on
+abbrev pub hasToken : View → Bool
+hasToken v = (v .sequence is 1) && (v .listed || (v .status is 76))
+
+unfoldable pub tokenAt : View → ℕ
+tokenAt v = if hasToken v then 8 else 0
+
+-- a status 0 Confirm has a value, from octet 8 on
+abbrev pub hasValue : View → Bool
+hasValue v = (v .sequence is 2) && (v .status is 0)
+
+-- a supported Commit's scalar stands after its token
+unfoldable pub restAt : View → ℕ
+restAt v = if v .listed then 8 + v .toklen else if hasValue v then 8 else 0
 
 -- what is not looked at is 0
-unfoldable pub partsOctets : Body → List ℕ → List ℕ
-partsOctets (body.Commit g n) old = partsOf 1 0 g 0 8 n (8 + n)
-partsOctets (body.Unsupported g) old = partsOf 1 0 g 0 0 0 0
-partsOctets (body.TokenRequest g n) old = partsOf 1 76 g 0 8 n 0
-partsOctets (body.GroupRefusal g) old = partsOf 1 77 g 0 0 0 0
-partsOctets (body.OtherCommit s) old = partsOf 1 s 0 0 0 0 0
-partsOctets (body.Confirm n) old = partsOf 2 0 0 n 0 0 8
-partsOctets (body.OtherConfirm s) old = partsOf 2 s 0 0 0 0 0
-partsOctets body.Malformed old = old
-
--- what a reader's token has: at most 256 octets
-pub record ShortToken (b : Body) : Type 0 where
-  pub commit : (g n : ℕ) → b ≡ body.Commit g n → n ≤ 256
-  pub request : (g n : ℕ) → b ≡ body.TokenRequest g n → n ≤ 256
+unfoldable pub partsOctets : View → List ℕ
+partsOctets v =
+    oct 2 (v .sequence) ++ (oct 2 (v .status) ++ (oct 2 (v .group) ++ (oct 2 (v .counter) ++ (oct 4 (tokenAt v) ++ (oct 4 (v .toklen) ++ oct 4 (restAt v))))))
 
 -- the reader refuses 2 and 7
-abbrev pub readNumberBy : Body → ℕ
-readNumberBy (body.Commit g n) = 0
-readNumberBy (body.Unsupported g) = 0
-readNumberBy (body.TokenRequest g n) = 0
-readNumberBy (body.GroupRefusal g) = 0
-readNumberBy (body.OtherCommit s) = 0
-readNumberBy (body.Confirm n) = 0
-readNumberBy (body.OtherConfirm s) = 0
-readNumberBy body.Malformed = 7
-
 unfoldable pub readNumber : List ℕ → List ℕ → ℕ
-readNumber t frame = if sound t then readNumberBy (readBody (groupsOf (decodeTable t .header)) frame) else 2
+readNumber t frame = if sound t then (if view (groupsOf (decodeTable t .header)) frame .sequence is 0 then 7 else 0) else 2
 
 unfoldable pub readParts : List ℕ → List ℕ → List ℕ → List ℕ
-readParts t frame old = if sound t then partsOctets (readBody (groupsOf (decodeTable t .header)) frame) old else old
+readParts t frame old =
+    let v = view (groupsOf (decodeTable t .header)) frame in
+    if sound t then (if v .sequence is 0 then old else partsOctets v) else old
 
 pub record Reads (r : ℕ) (parts : List ℕ) (given t frame : List ℕ) : Type 0 where
   pub returns : r ≡ readNumber t frame

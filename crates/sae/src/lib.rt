@@ -1,20 +1,19 @@
-// The C interface: what firmware links. Thin over engine, writer and frame. Every function returns 0 or the number of a refusal, and on a refusal
+// The C interface: what firmware links. Thin over engine, writer and message. Every function returns 0 or the number of a refusal, and on a refusal
 // leaves every lent octet, the answer and the length written too.
 ghost use mathlib.Core.Path.{_≡_};
-ghost use Rattle.acts.specs.Acts.{eventNumber};
-ghost use Rattle.turn.specs.Turn.{returned};
-ghost use Rattle.engine.specs.Calls.{initiates, kills, receives, expires};
-ghost use Rattle.turn.specs.Turn.{Leaves};
+ghost use Rattle.rules.specs.Book.{eventNumber};
+ghost use Rattle.answers.specs.Answers.{Leaves, returned};
+ghost use Rattle.calls.specs.Calls.{initiates, kills, receives, expires};
 ghost use Rattle.writer.specs.Writer.{writesParts, writesRecord};
-ghost use Rattle.sae.specs.Interface.{settingsOf, reservedZero, initializesFrom, noneDueFlag, frameOctets, framedOctets, framesOctets, answerOctets, isRefused, answerLeft, Returns, partsOf, partsOctets, readNumberBy, ShortToken, Reads, wroteNumber, writtenLeft, Counted, Writes};
-use acts::Event;
-use acts::Frame;
-use acts::Frames;
-use frame::Body;
+ghost use Rattle.sae.specs.Interface.{settingsOf, reservedZero, initializesFrom, noneDueFlag, frameOctets, framedOctets, framesOctets, answerOctets, isRefused, answerLeft, Returns, hasToken, tokenAt, hasValue, restAt, partsOctets, Reads, wroteNumber, writtenLeft, Counted, Writes};
+use answers::Answer;
+use answers::Outcome;
+use answers::Refusal;
+use message::View;
 use record::Settings;
-use turn::Answer;
-use turn::Outcome;
-use turn::Refusal;
+use rules::Event;
+use rules::Frame;
+use rules::Frames;
 use writer::Wrote;
 
 fn event_of(e: Event) -> u8
@@ -94,7 +93,7 @@ fn answer_octets(a: Answer) -> [u8; 28]
     let mut x = [0u8; 28];
     octets::put8(&mut x[..], 0, none);
     octets::put8(&mut x[..], 1, event);
-    octets::put16(&mut x[..], 2, a.fresh);
+    octets::put16(&mut x[..], 2, a.afresh);
     octets::copy_in(&mut x[..], 4, &address[..]);
     octets::copy_in(&mut x[..], 10, &frames[..]);
     x
@@ -117,10 +116,10 @@ fn reply(a: Answer, answer: &mut [u8; 28]) -> u32
 {
     let o = a.outcome;
     if is_refused(o) {
-        return turn::returned_of(o);
+        return answers::returned_of(o);
     }
     *answer = answer_octets(a);
-    turn::returned_of(o)
+    answers::returned_of(o)
 }
 
 // The settings that 16 octets say.
@@ -153,7 +152,7 @@ fn initialize_from(t: &mut [u8], own: [u8; 6], s: [u8; 16]) -> Answer
     ensures { λ r. ⌜ Leaves r (now (t .exit)) (initializesFrom (now (t .entry)) own s) ⌝ }
 {
     if !reserved_zero(s) {
-        return turn::refuse_with(Refusal::Settings);
+        return answers::refuse_with(Refusal::Settings);
     }
     let settings = settings_of(s);
     engine::initialize(t, own, settings)
@@ -234,7 +233,7 @@ fn wrote_reply(w: Wrote, written: &mut u32) -> u32
             *written = n as u32;
             0
         }
-        Wrote::Refused(c) => turn::number_of(c),
+        Wrote::Refused(c) => answers::number_of(c),
     }
 }
 
@@ -273,63 +272,60 @@ pub extern "C" fn sae_write_record(
     wrote_reply(w, written)
 }
 
-// The octets of a frame's parts.
-fn parts_of(
-    sequence: u16,
-    status: u16,
-    group: u16,
-    counter: u16,
-    at: u32,
-    length: u32,
-    scalar: u32,
-) -> [u8; 20]
-    ensures { λ r. ⌜ r ≡ partsOf sequence status group counter at length scalar ⌝ }
+// A supported Commit and a 76 have a token.
+fn has_token(v: View) -> bool
+    ensures { λ r. ⌜ r ≡ hasToken v ⌝ }
 {
+    (v.sequence == 1) & (v.listed | (v.status == 76))
+}
+
+// Where the token stands, or 0.
+fn token_at(v: View) -> u32
+    ensures { λ r. ⌜ r ≡ tokenAt v ⌝ }
+{
+    if has_token(v) {
+        return 8;
+    }
+    0
+}
+
+// A status 0 Confirm has a value.
+fn has_value(v: View) -> bool
+    ensures { λ r. ⌜ r ≡ hasValue v ⌝ }
+{
+    (v.sequence == 2) & (v.status == 0)
+}
+
+// Where the scalar or the value stands, or 0.
+fn rest_at(v: View) -> u32
+    ensures { λ r. ⌜ r ≡ restAt v ⌝ }
+{
+    let listed = v.listed;
+    if listed {
+        return 8 + v.toklen as u32;
+    }
+    if has_value(v) {
+        return 8;
+    }
+    0
+}
+
+// The octets of a frame's parts.
+fn parts_octets(v: View) -> [u8; 20]
+    ensures { λ r. ⌜ r ≡ partsOctets v ⌝ }
+{
+    let at = token_at(v);
+    let length = v.toklen as u32;
+    let rest = rest_at(v);
     let mut x = [0u8; 20];
-    octets::put16(&mut x[..], 0, sequence);
-    octets::put16(&mut x[..], 2, status);
-    octets::put16(&mut x[..], 4, group);
-    octets::put16(&mut x[..], 6, counter);
+    octets::put16(&mut x[..], 0, v.sequence);
+    octets::put16(&mut x[..], 2, v.status);
+    octets::put16(&mut x[..], 4, v.group);
+    octets::put16(&mut x[..], 6, v.counter);
     octets::put32(&mut x[..], 8, at);
     octets::put32(&mut x[..], 12, length);
-    octets::put32(&mut x[..], 16, scalar);
+    octets::put32(&mut x[..], 16, rest);
     x
-}
-
-// What a body read says of its parts; of a malformed one nothing.
-fn parts_octets(b: Body, old: [u8; 20]) -> [u8; 20]
-    requires { ⌜ ShortToken b ⌝ }
-    ensures { λ r. ⌜ r ≡ partsOctets b old ⌝ }
-{
-    match b {
-        Body::Commit { group, token } => {
-            let n = token as u32;
-            parts_of(1, 0, group, 0, 8, n, 8 + n)
-        }
-        Body::Unsupported { group } => parts_of(1, 0, group, 0, 0, 0, 0),
-        Body::TokenRequest { group, token } => parts_of(1, 76, group, 0, 8, token as u32, 0),
-        Body::GroupRefusal { group } => parts_of(1, 77, group, 0, 0, 0, 0),
-        Body::OtherCommit { status } => parts_of(1, status, 0, 0, 0, 0, 0),
-        Body::Confirm { counter } => parts_of(2, 0, 0, counter, 0, 0, 8),
-        Body::OtherConfirm { status } => parts_of(2, status, 0, 0, 0, 0, 0),
-        Body::Malformed => old,
-    }
-}
-
-// 0, or 7 of a malformed body.
-fn read_number(b: Body) -> u32
-    ensures { λ r. ⌜ r ≡ readNumberBy b ⌝ }
-{
-    match b {
-        Body::Commit { group: _, token: _ } => 0,
-        Body::Unsupported { group: _ } => 0,
-        Body::TokenRequest { group: _, token: _ } => 0,
-        Body::GroupRefusal { group: _ } => 0,
-        Body::OtherCommit { status: _ } => 0,
-        Body::Confirm { counter: _ } => 0,
-        Body::OtherConfirm { status: _ } => 0,
-        Body::Malformed => 7,
-    }
 }
 
 // Read a frame's parts. Causes 2 and 7.
@@ -337,14 +333,18 @@ fn read_number(b: Body) -> u32
 pub extern "C" fn sae_read(t: &[u8], body: &[u8], parts: &mut [u8; 20]) -> u32
     ensures { λ r. ⌜ Reads r (now (parts .exit)) (now (parts .entry)) (now (t .entry)) (now (body .entry)) ⌝ }
 {
-    if !table::is_sound(t) {
+    let c = table::check(t);
+    let whole = c.sound;
+    if !whole {
         return 2;
     }
-    let h = table::header_of(t);
+    let h = c.header;
     let list = h.groups;
     let n = h.count as usize;
-    let b = frame::read(&list[..n], body);
-    let old = *parts;
-    *parts = parts_octets(b, old);
-    read_number(b)
+    let v = message::read(&list[..n], body);
+    if v.sequence == 0 {
+        return 7;
+    }
+    *parts = parts_octets(v);
+    0
 }

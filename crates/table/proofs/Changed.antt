@@ -10,9 +10,10 @@ use Rattle.octets.specs.Scan.{bit}
 use Rattle.octets.proofs.Laws.{length-put, part-put-before}
 use Rattle.groups.specs.Groups.{width}
 use Rattle.record.specs.Layout.{decodePeer, decodeHeader, counted}
+use Rattle.record.specs.declared.Header.{Header}
 use Rattle.record.specs.declared.Peer.{Peer}
 use Rattle.record.proofs.Laws.{header-front}
-use Rattle.table.specs.Table.{Table, size, peersOf, decodeTable, slot, slots, inUse, running, usedCount, openCount, stored, recounted, standingOf, Changed, Ready}
+use Rattle.table.specs.Table.{Table, size, peersOf, decodeTable, slot, slots, inUse, isOpen, usedCount, openCount, withPeer, recounted, standingOf, Changed, Ready}
 use Rattle.table.proofs.Octets.{put-after, put-front}
 use Rattle.table.proofs.Laws.{slot-same, used-stored, open-stored, peers-held}
 
@@ -36,30 +37,32 @@ header-put : (t y : List ℕ) (k : ℕ) → 32 + size * k ≤ length t → decod
 header-put t y k h = sym (header-front _) ∙ ap decodeHeader (part-put-before t (32 + size * k) y 0 32 h (omega arith)) ∙ header-front t
 
 -- WHAT LIES IN A SLOT'S OCTETS is its record, and all else stays
-pub stored-decoded : (t y : List ℕ) (n k : ℕ) → length t ≡ 32 + size * n → k < n → length y ≡ size
-    → decodeTable (put t (32 + size * k) y) ≡ stored (decodeTable t) k (decodePeer width y)
-unfolding decodeTable stored
-stored-decoded t y n k h l e =
+pub with-peer-decoded : (t y : List ℕ) (n k : ℕ) → length t ≡ 32 + size * n → k < n → length y ≡ size
+    → decodeTable (put t (32 + size * k) y) ≡ withPeer (decodeTable t) k (decodePeer width y)
+unfolding decodeTable withPeer
+with-peer-decoded t y n k h l e =
     let w : length (put t (32 + size * k) y) ≡ length t = length-put t (32 + size * k) y (omega arith) in
     let q : (length t - 32) / size ≡ n = omega arith in
     let m : length (drop 32 t) ≡ size * n = length-drop 32 t ∙ omega arith in
     rw (w, q, header-put t y k (omega arith), drop-put 32 (size * k) t y (omega arith), set-peers n k (drop 32 t) y m l e) refl
 
 -- the table then is as `recount` asks, with the old record's share in the counts
-pub changed : (t u : List ℕ) (k : ℕ) (p : Peer) → Ready t k → length u ≡ length t → decodeTable u ≡ stored (decodeTable t) k p → Changed u k (standingOf (slot (decodeTable t) k))
-unfolding stored
-changed t u k p R l e =
+pub changed : (t u : List ℕ) (k : ℕ) (p : Peer) (h : Header) → Ready t k → h ≡ decodeTable t .header → length u ≡ length t → decodeTable u ≡ withPeer (decodeTable t) k p
+    → Changed u k h (standingOf (slot (decodeTable t) k))
+unfolding withPeer
+changed t u k p g R eg l e =
     let n : slots (decodeTable u) ≡ slots (decodeTable t) = ap (λ (X : Table). slots X) e in
     let h : k < length (decodeTable t .peers) = omega (arith, peers-held t (slots (decodeTable t)) (R .whole), R .below) in
-    let s : slot (stored (decodeTable t) k p) k ≡ p = slot-same (decodeTable t) k p h in
+    let s : slot (withPeer (decodeTable t) k p) k ≡ p = slot-same (decodeTable t) k p h in
     record {
       fits = rw l (R .fits);
       whole = l ∙ R .whole ∙ ap (λ (x : ℕ). 32 + size * x) (sym n);
       small = rw n (R .small);
+      header = eg ∙ ap (λ (X : Table). X .header) (sym e);
       used = subst (λ (X : Table). X .header .used + bit (inUse (slot X k)) ≡ usedCount X + bit (inUse (slot (decodeTable t) k))) (sym e)
           (ap (λ (q : Peer). decodeTable t .header .used + bit (inUse q)) s ∙ ap (λ (x : ℕ). x + bit (inUse p)) (R .used) ∙ used-stored (decodeTable t) k p (R .below) h);
-      opened = subst (λ (X : Table). X .header .opened + bit (running (slot X k)) ≡ openCount X + bit (running (slot (decodeTable t) k))) (sym e)
-          (ap (λ (q : Peer). decodeTable t .header .opened + bit (running q)) s ∙ ap (λ (x : ℕ). x + bit (running p)) (R .opened) ∙ open-stored (decodeTable t) k p (R .below) h);
+      opened = subst (λ (X : Table). X .header .opened + bit (isOpen (slot X k)) ≡ openCount X + bit (isOpen (slot (decodeTable t) k))) (sym e)
+          (ap (λ (q : Peer). decodeTable t .header .opened + bit (isOpen q)) s ∙ ap (λ (x : ℕ). x + bit (isOpen p)) (R .opened) ∙ open-stored (decodeTable t) k p (R .below) h);
     }
 
 -- counts that are true stay

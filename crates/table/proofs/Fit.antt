@@ -12,7 +12,7 @@ use Rattle.groups.specs.Groups.{width}
 use Rattle.record.specs.declared.Peer.{Peer}
 use Rattle.record.specs.Layout.{noPeer}
 use Rattle.record.proofs.Laws.{FitPeer, fit-peer, fit-header}
-use Rattle.table.specs.Table.{Table, size, decodeTable, encodeTable, peersOf, slots, slot, inUse, running, recounted, stored, placed, usedCount, openCount}
+use Rattle.table.specs.Table.{Table, size, decodeTable, encodeTable, peersOf, slots, slot, inUse, isOpen, recounted, withPeer, placed, usedCount, openCount}
 use Rattle.table.proofs.Octets.{Fits, none, more, FitTable, bytes-table}
 
 fit-peers : (n : ℕ) (s : List ℕ) → Bytes s → length s ≡ size * n → Fits (peersOf n s)
@@ -36,11 +36,11 @@ fits-set (suc k) (more g r) f = more g (fits-set k r f)
 
 -- a record that fits, placed in a table that fits
 pub fit-placed : (T : Table) (k : ℕ) (p : Peer) → FitTable T → FitPeer width p → FitTable (placed T k p)
-unfolding placed recounted stored usedCount openCount
+unfolding placed recounted withPeer usedCount openCount
 fit-placed T k p f g =
     let h = f .header .shape in
-    let u : usedCount (stored T k p) ≤ slots T = count-le (λ j. inUse (slot (stored T k p) j)) (slots T) in
-    let o : openCount (stored T k p) ≤ slots T = count-le (λ j. running (slot (stored T k p) j)) (slots T) in
+    let u : usedCount (withPeer T k p) ≤ slots T = count-le (λ j. inUse (slot (withPeer T k p) j)) (slots T) in
+    let o : openCount (withPeer T k p) ≤ slots T = count-le (λ j. isOpen (slot (withPeer T k p) j)) (slots T) in
     record {
       header = record {
         shape = record {

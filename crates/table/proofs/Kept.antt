@@ -20,9 +20,9 @@ use Rattle.groups.specs.Groups.{width}
 use Rattle.record.specs.declared.Peer.{Peer}
 use Rattle.record.specs.Layout.{groupsOf, noPeer}
 use Rattle.record.proofs.Laws.{FitPeer}
-use Rattle.form.specs.Form.{headerOk, peerOk}
-use Rattle.form.proofs.Laws.{header-counted}
-use Rattle.table.specs.Table.{Table, size, decodeTable, encodeTable, slot, slots, inUse, holds, alone, slotsOk, addressesOk, countsOk, sound, usedCount, openCount, stored, placed, recounted, finds, look, lookBy}
+use Rattle.soundness.specs.Soundness.{headerOk, peerOk}
+use Rattle.soundness.proofs.Laws.{header-counted}
+use Rattle.table.specs.Table.{Table, size, decodeTable, encodeTable, slot, slots, inUse, belongs, alone, slotsOk, addressesOk, countsOk, sound, usedCount, openCount, withPeer, placed, recounted, finds, look, lookBy}
 use Rattle.table.proofs.Octets.{FitTable, decode-encode, encode-decode, length-table}
 use Rattle.table.proofs.Laws.{sound-header, sound-whole, sound-addresses, sound-counts, sound-peer, sound-of, slot-same, slot-other, peers-held, found-below}
 use Rattle.table.proofs.Changed.{recounted-same}
@@ -41,13 +41,13 @@ same-trans a b d e f = eq-eqb _ _ (eqb-true (num a) (num b) e ∙ eqb-true (num 
 pub record Form (T : Table) : Type 0 where
   pub header : headerOk (T .header) ≡ true
   pub each : (k : ℕ) → k < slots T → peerOk (T .header .own) (groupsOf (T .header)) (slot T k) ≡ true
-  pub apart : (i j : ℕ) → i < slots T → j < slots T → (i ≡ j → ⊥) → inUse (slot T j) ≡ true → holds (slot T j .address) (slot T i) ≡ false
+  pub apart : (i j : ℕ) → i < slots T → j < slots T → (i ≡ j → ⊥) → inUse (slot T j) ≡ true → belongs (slot T j .address) (slot T i) ≡ false
   pub used : T .header .used ≡ usedCount T
   pub opened : T .header .opened ≡ openCount T
 
 -- two records with one address
-meet : (p q : Peer) → inUse p ≡ true → holds (p .address) q ≡ true → (inUse q ≡ true) × (holds (q .address) p ≡ true)
-unfolding holds
+meet : (p q : Peer) → inUse p ≡ true → belongs (p .address) q ≡ true → (inUse q ≡ true) × (belongs (q .address) p ≡ true)
+unfolding belongs
 meet p q u e = let v = and-left (inUse q) _ e in (v, and-both (inUse p) _ u (same-sym (q .address) (p .address) (and-right (inUse q) _ e)))
 
 is-not : (b : Bool) → b ≡ false → not b ≡ true
@@ -65,12 +65,12 @@ first-empty : (f : ℕ → Bool) (n : ℕ) → ((k : ℕ) → k < n → f k ≡ 
 first-empty f zero h = first-none f
 first-empty f (suc n) h = subst (λ (m : ℕ). firstBelow f m ≡ Nothing) (add-one n) (first-more f n (first-empty f n (λ k l. h k (omega arith))) (h n (omega arith)))
 
-below-clear : (T : Table) → addressesOk T ≡ true → (i j : ℕ) → i < j → j < slots T → inUse (slot T j) ≡ true → holds (slot T j .address) (slot T i) ≡ false
+below-clear : (T : Table) → addressesOk T ≡ true → (i j : ℕ) → i < j → j < slots T → inUse (slot T j) ≡ true → belongs (slot T j .address) (slot T i) ≡ false
 unfolding addressesOk alone
 below-clear T s i j h l u =
-    not-true _ (all-true (λ x. not (holds (slot T j .address) (slot T x))) j (or-second (inUse (slot T j)) _ (all-true (alone T) (slots T) s j l) u) i h)
+    not-true _ (all-true (λ x. not (belongs (slot T j .address) (slot T x))) j (or-second (inUse (slot T j)) _ (all-true (alone T) (slots T) s j l) u) i h)
 
-slots-apart : (T : Table) → addressesOk T ≡ true → (i j : ℕ) → i < slots T → j < slots T → (i ≡ j → ⊥) → inUse (slot T j) ≡ true → holds (slot T j .address) (slot T i) ≡ false
+slots-apart : (T : Table) → addressesOk T ≡ true → (i j : ℕ) → i < slots T → j < slots T → (i ≡ j → ⊥) → inUse (slot T j) ≡ true → belongs (slot T j .address) (slot T i) ≡ false
 slots-apart T s i j li lj d u = elim (decLt i j) [
   | yes h ↦ below-clear T s i j h lj u
   | no h ↦ isnt _ (λ e. let m = meet (slot T j) (slot T i) u e in clash (m .1) (below-clear T s j i (omega arith) li (m .0)))
@@ -90,7 +90,7 @@ alone-of : (T : Table) → Form T → (k : ℕ) → k < slots T → alone T k �
 unfolding alone
 alone-of T F k h = go (cases (inUse (slot T k)))
   where
-    go : (inUse (slot T k) ≡ true) ⊎ (inUse (slot T k) ≡ false) → (not (inUse (slot T k)) || allBelow (λ j. not (holds (slot T k .address) (slot T j))) k) ≡ true
+    go : (inUse (slot T k) ≡ true) ⊎ (inUse (slot T k) ≡ false) → (not (inUse (slot T k)) || allBelow (λ j. not (belongs (slot T k .address) (slot T j))) k) ≡ true
     go (inl u) = rw u (all-of _ k (λ i l. is-not _ (F .apart i k (omega arith) h (λ e. omega arith) u)))
     go (inr u) = rw u
 
@@ -121,29 +121,29 @@ form-sound T f n F =
 
 module _ (T : Table) (k : ℕ) (p : Peer) (l : k < length (T .peers)) where
   pub placed-same : slot (placed T k p) k ≡ p
-  unfolding placed recounted slot stored
+  unfolding placed recounted slot withPeer
   placed-same = slot-same T k p l
 
   -- EVERY OTHER RECORD stays
   pub placed-other : (j : ℕ) → (j ≡ k → ⊥) → slot (placed T k p) j ≡ slot T j
-  unfolding placed recounted slot stored
+  unfolding placed recounted slot withPeer
   placed-other j d = slot-other T k p j d
 
   -- THE COUNTS are true
   pub placed-used : placed T k p .header .used ≡ usedCount (placed T k p)
-  unfolding placed recounted usedCount stored slot
+  unfolding placed recounted usedCount withPeer slot
   placed-used = refl
 
   pub placed-open : placed T k p .header .opened ≡ openCount (placed T k p)
-  unfolding placed recounted openCount stored slot
+  unfolding placed recounted openCount withPeer slot
   placed-open = refl
 
 -- a record that is alone with its address
 abbrev pub Alone : Table → ℕ → Peer → Type 0
-Alone T k p = (i : ℕ) → i < slots T → (i ≡ k → ⊥) → inUse p ≡ true → holds (p .address) (slot T i) ≡ false
+Alone T k p = (i : ℕ) → i < slots T → (i ≡ k → ⊥) → inUse p ≡ true → belongs (p .address) (slot T i) ≡ false
 
 placed-apart : (T : Table) (k : ℕ) (p : Peer) → k < length (T .peers) → Form T → Alone T k p → (i j : ℕ) → i < slots T → j < slots T → (i ≡ j → ⊥)
-    → inUse (slot (placed T k p) j) ≡ true → holds (slot (placed T k p) j .address) (slot (placed T k p) i) ≡ false
+    → inUse (slot (placed T k p) j) ≡ true → belongs (slot (placed T k p) j .address) (slot (placed T k p) i) ≡ false
 placed-apart T k p l F A i j li lj d u = elim (ℕ-discrete j k) [
   | yes e ↦
       let ej : slot (placed T k p) j ≡ p = ap (slot (placed T k p)) e ∙ placed-same T k p l in
@@ -163,16 +163,16 @@ placed-apart T k p l F A i j li lj d u = elim (ℕ-discrete j k) [
 ]
 
 placed-header : (T : Table) (k : ℕ) (p : Peer) → headerOk (placed T k p .header) ≡ headerOk (T .header)
-unfolding placed recounted stored
-placed-header T k p = header-counted (T .header) (usedCount (stored T k p)) (openCount (stored T k p))
+unfolding placed recounted withPeer
+placed-header T k p = header-counted (T .header) (usedCount (withPeer T k p)) (openCount (withPeer T k p))
 
 placed-slots : (T : Table) (k : ℕ) (p : Peer) → slots (placed T k p) ≡ slots T
-unfolding placed recounted stored
+unfolding placed recounted withPeer
 placed-slots T k p = refl
 
 -- THE FORM IS KEPT
 pub placed-form : (T : Table) (k : ℕ) (p : Peer) → k < length (T .peers) → Form T → peerOk (T .header .own) (groupsOf (T .header)) p ≡ true → Alone T k p → Form (placed T k p)
-unfolding placed recounted stored
+unfolding placed recounted withPeer
 placed-form T k p l F g A = record {
   header = placed-header T k p ∙ F .header;
   each = λ j h. good j (rw (placed-slots T k p) at h);
@@ -188,7 +188,7 @@ placed-form T k p l F g A = record {
     ]
 
 peers-placed : (T : Table) (k : ℕ) (p : Peer) → length (placed T k p .peers) ≡ length (T .peers)
-unfolding placed recounted stored
+unfolding placed recounted withPeer
 peers-placed T k p = length-set (T .peers) k p
 
 -- and so is soundness, for every call that places a good record
@@ -222,8 +222,8 @@ placed-others t k j p b s h f d =
 -- ---- by address
 
 -- DISTINCT ADDRESSES make the answer of a search the only one
-pub found-only : (T : Table) (a : List ℕ) (k i : ℕ) → Form T → finds T a ≡ At k → i < slots T → holds a (slot T i) ≡ true → i ≡ k
-unfolding holds
+pub found-only : (T : Table) (a : List ℕ) (k i : ℕ) → Form T → finds T a ≡ At k → i < slots T → belongs a (slot T i) ≡ true → i ≡ k
+unfolding belongs
 found-only T a k i F e h u = elim (ℕ-discrete i k) [
   | yes q ↦ q
   | no d ↦
@@ -233,12 +233,12 @@ found-only T a k i F e h u = elim (ℕ-discrete i k) [
       absurd (clash (and-both (inUse (slot T i)) _ (and-left (inUse (slot T i)) _ u) m) (F .apart i k h (w .0) d (and-left (inUse (slot T k)) _ (w .1))))
 ]
 
-finds-ext : (T : Table) (k : ℕ) (p : Peer) (b : List ℕ) → ((j : ℕ) → holds b (slot (placed T k p) j) ≡ holds b (slot T j)) → finds (placed T k p) b ≡ finds T b
+finds-ext : (T : Table) (k : ℕ) (p : Peer) (b : List ℕ) → ((j : ℕ) → belongs b (slot (placed T k p) j) ≡ belongs b (slot T j)) → finds (placed T k p) b ≡ finds T b
 unfolding finds
 finds-ext T k p b h =
-    ap (firstBelow (λ j. holds b (slot (placed T k p) j))) (placed-slots T k p) ∙ first-ext (λ j. holds b (slot (placed T k p) j)) (λ j. holds b (slot T j)) (slots T) (λ j l. h j)
+    ap (firstBelow (λ j. belongs b (slot (placed T k p) j))) (placed-slots T k p) ∙ first-ext (λ j. belongs b (slot (placed T k p) j)) (λ j. belongs b (slot T j)) (slots T) (λ j l. h j)
 
-look-by : (T : Table) (k : ℕ) (p : Peer) (b : List ℕ) → k < length (T .peers) → holds b (slot T k) ≡ false → (f : Found) → finds T b ≡ f → lookBy (placed T k p) (finds T b) ≡ lookBy T (finds T b)
+look-by : (T : Table) (k : ℕ) (p : Peer) (b : List ℕ) → k < length (T .peers) → belongs b (slot T k) ≡ false → (f : Found) → finds T b ≡ f → lookBy (placed T k p) (finds T b) ≡ lookBy T (finds T b)
 unfolding lookBy
 look-by T k p b l n (At j) e =
     let d : j ≡ k → ⊥ = λ q. clash (rw q at (found-below T b j e .1)) n in
@@ -246,14 +246,14 @@ look-by T k p b l n (At j) e =
 look-by T k p b l n Nothing e = rw e
 
 -- another address finds what it found
-pub look-other : (T : Table) (k : ℕ) (p : Peer) (b : List ℕ) → k < length (T .peers) → holds b (slot T k) ≡ false → holds b p ≡ false → look (placed T k p) b ≡ look T b
+pub look-other : (T : Table) (k : ℕ) (p : Peer) (b : List ℕ) → k < length (T .peers) → belongs b (slot T k) ≡ false → belongs b p ≡ false → look (placed T k p) b ≡ look T b
 unfolding look
 look-other T k p b l n m = ap (lookBy (placed T k p)) same ∙ go (finds T b) refl
   where
-    at : (j : ℕ) → holds b (slot (placed T k p) j) ≡ holds b (slot T j)
+    at : (j : ℕ) → belongs b (slot (placed T k p) j) ≡ belongs b (slot T j)
     at j = elim (ℕ-discrete j k) [
-      | yes e ↦ ap (λ (x : ℕ). holds b (slot (placed T k p) x)) e ∙ ap (holds b) (placed-same T k p l) ∙ m ∙ sym n ∙ ap (λ (x : ℕ). holds b (slot T x)) (sym e)
-      | no d ↦ ap (holds b) (placed-other T k p l j d)
+      | yes e ↦ ap (λ (x : ℕ). belongs b (slot (placed T k p) x)) e ∙ ap (belongs b) (placed-same T k p l) ∙ m ∙ sym n ∙ ap (λ (x : ℕ). belongs b (slot T x)) (sym e)
+      | no d ↦ ap (belongs b) (placed-other T k p l j d)
     ]
 
     same : finds (placed T k p) b ≡ finds T b
@@ -263,22 +263,22 @@ look-other T k p b l n m = ap (lookBy (placed T k p)) same ∙ go (finds T b) re
     go f e = look-by T k p b l n f e
 
 -- and the address itself finds the record placed
-finds-same : (T : Table) (k : ℕ) (p : Peer) (a : List ℕ) → k < length (T .peers) → k < slots T → ((i : ℕ) → i < slots T → (i ≡ k → ⊥) → holds a (slot T i) ≡ false)
-    → holds a p ≡ true → At k ≡ finds (placed T k p) a
+finds-same : (T : Table) (k : ℕ) (p : Peer) (a : List ℕ) → k < length (T .peers) → k < slots T → ((i : ℕ) → i < slots T → (i ≡ k → ⊥) → belongs a (slot T i) ≡ false)
+    → belongs a p ≡ true → At k ≡ finds (placed T k p) a
 unfolding finds
 finds-same T k p a l h A u =
-    first-hit (λ j. holds a (slot (placed T k p) j)) (slots (placed T k p)) k (rw (placed-slots T k p) h)
-    (first-empty _ k (λ i m. let d : i ≡ k → ⊥ = λ q. omega arith in ap (holds a) (placed-other T k p l i d) ∙ A i (omega arith) d))
-    (ap (holds a) (placed-same T k p l) ∙ u)
+    first-hit (λ j. belongs a (slot (placed T k p) j)) (slots (placed T k p)) k (rw (placed-slots T k p) h)
+    (first-empty _ k (λ i m. let d : i ≡ k → ⊥ = λ q. omega arith in ap (belongs a) (placed-other T k p l i d) ∙ A i (omega arith) d))
+    (ap (belongs a) (placed-same T k p l) ∙ u)
 
-pub look-same : (T : Table) (k : ℕ) (p : Peer) (a : List ℕ) → k < length (T .peers) → k < slots T → ((i : ℕ) → i < slots T → (i ≡ k → ⊥) → holds a (slot T i) ≡ false)
-    → holds a p ≡ true → look (placed T k p) a ≡ p
+pub look-same : (T : Table) (k : ℕ) (p : Peer) (a : List ℕ) → k < length (T .peers) → k < slots T → ((i : ℕ) → i < slots T → (i ≡ k → ⊥) → belongs a (slot T i) ≡ false)
+    → belongs a p ≡ true → look (placed T k p) a ≡ p
 unfolding look lookBy
 look-same T k p a l h A u = ap (lookBy (placed T k p)) (sym (finds-same T k p a l h A u)) ∙ placed-same T k p l
 
 -- the record that was there, placed again, leaves every octet
-pub stored-own : (T : Table) (k : ℕ) → stored T k (slot T k) ≡ T
-unfolding stored slot
+pub stored-own : (T : Table) (k : ℕ) → withPeer T k (slot T k) ≡ T
+unfolding withPeer slot
 stored-own T k = λ i. record { header = T .header; peers = set-getD (T .peers) k noPeer i }
 
 pub placed-again : (t : List ℕ) (k : ℕ) → Bytes t → sound t ≡ true → encodeTable (placed (decodeTable t) k (slot (decodeTable t) k)) ≡ t

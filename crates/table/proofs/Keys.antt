@@ -15,7 +15,7 @@ use Rattle.octets.specs.Octets.{num, sameAddress}
 use Rattle.octets.specs.Scan.{allBelow}
 use Rattle.octets.proofs.Scan.{cases, all-ext}
 use Rattle.record.specs.declared.Peer.{Peer}
-use Rattle.table.specs.Table.{Table, slot, inUse, holds, alone, key, newKey}
+use Rattle.table.specs.Table.{Table, slot, inUse, belongs, alone, key, newKey}
 
 key-used : (p : Peer) → inUse p ≡ true → key p ≡ num (p .address) + 1
 unfolding key
@@ -35,8 +35,8 @@ eqb-up x y = elim (ℕ-discrete x y) [
     up q = omega arith
 
 -- a key is that of an address just where the record holds it
-key-holds : (p : Peer) (a : List ℕ) → eqb (key p) (num a + 1) ≡ holds a p
-unfolding holds sameAddress
+key-holds : (p : Peer) (a : List ℕ) → eqb (key p) (num a + 1) ≡ belongs a p
+unfolding belongs sameAddress
 key-holds p a = go (cases (inUse p))
   where
     go : (inUse p ≡ true) ⊎ (inUse p ≡ false) → eqb (key p) (num a + 1) ≡ (inUse p && eqb (num (p .address)) (num a))
@@ -48,11 +48,11 @@ unfolding newKey alone
 new-alone T keys n h k l = go (cases (inUse (slot T k)))
   where
     go : (inUse (slot T k) ≡ true) ⊎ (inUse (slot T k) ≡ false)
-        → (eqb (getD keys k 0) 0 || allBelow (λ j. not (eqb (getD keys j 0) (getD keys k 0))) k) ≡ (not (inUse (slot T k)) || allBelow (λ j. not (holds (slot T k .address) (slot T j))) k)
+        → (eqb (getD keys k 0) 0 || allBelow (λ j. not (eqb (getD keys j 0) (getD keys k 0))) k) ≡ (not (inUse (slot T k)) || allBelow (λ j. not (belongs (slot T k .address) (slot T j))) k)
     go (inl u) =
         let e : getD keys k 0 ≡ num (slot T k .address) + 1 = h k l ∙ key-used (slot T k) u in
         let z : eqb (num (slot T k .address) + 1) 0 ≡ false = ne-eqb (num (slot T k .address) + 1) 0 (λ q. omega arith) in
-        rw (e, u, z) (all-ext (λ j. not (eqb (getD keys j 0) (num (slot T k .address) + 1))) (λ j. not (holds (slot T k .address) (slot T j))) k
+        rw (e, u, z) (all-ext (λ j. not (eqb (getD keys j 0) (num (slot T k .address) + 1))) (λ j. not (belongs (slot T k .address) (slot T j))) k
         (λ j m. ap not (ap (λ (x : ℕ). eqb x (num (slot T k .address) + 1)) (h j (omega arith)) ∙ key-holds (slot T j) (slot T k .address))))
     go (inr u) =
         let e : getD keys k 0 ≡ 0 = h k l ∙ key-free (slot T k) u in

@@ -14,13 +14,13 @@ use Rattle.octets.specs.Octets.{num, sameAddress}
 use Rattle.octets.specs.Scan.{if_then_else_, allBelow, countBelow, firstBelow, lastBelow, bit}
 use Rattle.octets.specs.declared.Found.{Found}
 use Rattle.octets.specs.declared.Found.the-variants.{At, Nothing}
-use Rattle.octets.proofs.Scan.{cases, and-left, and-right, and-both, all-true, all-of, first-at, first-nothing, last-at, count-but, count-le, bit-le}
+use Rattle.octets.proofs.Scan.{cases, clash, and-left, and-right, and-both, all-true, all-of, first-at, first-nothing, last-at, count-but, count-le, bit-le}
 use Rattle.record.specs.declared.Peer.{Peer}
 use Rattle.record.specs.declared.Header.{Header}
 use Rattle.record.specs.Layout.{groupsOf}
-use Rattle.form.specs.Form.{usable, headerOk, peerOk}
-use Rattle.form.proofs.Laws.{header-form, groups-form}
-use Rattle.table.specs.Table.{Table, size, decodeTable, slot, slots, inUse, running, holds, alone, slotsOk, addressesOk, countsOk, sound, usedCount, openCount, finds, freeSlot, entry, foundEntry, stored, standingOf, Changed, Ready, Whole}
+use Rattle.soundness.specs.Soundness.{usable, headerOk, peerOk}
+use Rattle.soundness.proofs.Laws.{header-form, groups-form}
+use Rattle.table.specs.Table.{Table, size, decodeTable, slot, slots, inUse, isOpen, belongs, alone, slotsOk, addressesOk, countsOk, sound, usedCount, openCount, finds, freeSlot, entry, foundEntry, withPeer, standingOf, Changed, Ready, Whole, Sized, Looked}
 use Rattle.table.specs.declared.Standing.{Standing}
 use Rattle.table.specs.declared.Entry.{Entry}
 use Rattle.table.specs.declared.Entry.the-variants as entry-is
@@ -151,7 +151,7 @@ one-used f n j k l h c e = go (cases (f j))
         absurd (omega (arith, count-part f n k h, count-part f k j l, a, b, c))
 
 few-alone : (T : Table) → usedCount T < 2 → addressesOk T ≡ true
-unfolding addressesOk alone holds usedCount
+unfolding addressesOk alone belongs usedCount
 few-alone T c = all-of (alone T) (slots T) (λ k h. go k h (cases (inUse (slot T k))))
   where
     go : (k : ℕ) → k < slots T → (inUse (slot T k) ≡ true) ⊎ (inUse (slot T k) ≡ false) → (not (inUse (slot T k)) || allBelow (λ j. not (inUse (slot T j) && sameAddress (slot T j .address) (slot T k .address))) k) ≡ true
@@ -198,7 +198,7 @@ body-law t own gs h n s a c w eo eg es ea ec = ap (λ (x : Bool). x && (a && c))
 -- what `find`, `free_slot` and `enter` show
 pub find-law : (t : List ℕ) (n : ℕ) (a : List ℕ) (x : ℕ) (r : Found) → n ≡ slots (decodeTable t) → x ≡ num a
     → r ≡ firstBelow (λ k. inUse (slot (decodeTable t) k) && eqb (num (slot (decodeTable t) k .address)) x) n → r ≡ finds (decodeTable t) a
-unfolding finds holds sameAddress
+unfolding finds belongs sameAddress
 find-law t n a x r e p q = q ∙ rw (e, p) refl
 
 pub free-law : (t : List ℕ) (n : ℕ) (r : Found) → n ≡ slots (decodeTable t) → r ≡ lastBelow (λ k. eqb (slot (decodeTable t) k .used) 0) n → r ≡ freeSlot (decodeTable t)
@@ -234,28 +234,28 @@ module _ (t a : List ℕ) where
 -- ---- a record stored
 
 module _ (T : Table) (k : ℕ) (p : Peer) where
-  pub slot-same : k < length (T .peers) → slot (stored T k p) k ≡ p
-  unfolding slot stored
+  pub slot-same : k < length (T .peers) → slot (withPeer T k p) k ≡ p
+  unfolding slot withPeer
   slot-same h = getD-set-same (T .peers) k p _ h
 
-  pub slot-other : (j : ℕ) → (j ≡ k → ⊥) → slot (stored T k p) j ≡ slot T j
-  unfolding slot stored
+  pub slot-other : (j : ℕ) → (j ≡ k → ⊥) → slot (withPeer T k p) j ≡ slot T j
+  unfolding slot withPeer
   slot-other j d = getD-set-other (T .peers) k j p _ d
 
   -- a count after the record is stored
   count-stored : (f : Peer → Bool) → k < slots T → k < length (T .peers)
-      → countBelow (λ j. f (slot T j)) (slots T) + bit (f p) ≡ countBelow (λ j. f (slot (stored T k p) j)) (slots T) + bit (f (slot T k))
+      → countBelow (λ j. f (slot T j)) (slots T) + bit (f p) ≡ countBelow (λ j. f (slot (withPeer T k p) j)) (slots T) + bit (f (slot T k))
   count-stored f h l =
       ap (λ (q : Peer). countBelow (λ j. f (slot T j)) (slots T) + bit (f q)) (sym (slot-same l))
-      ∙ count-but (λ j. f (slot T j)) (λ j. f (slot (stored T k p) j)) (slots T) k h (λ j m d. ap f (sym (slot-other j d)))
+      ∙ count-but (λ j. f (slot T j)) (λ j. f (slot (withPeer T k p) j)) (slots T) k h (λ j m d. ap f (sym (slot-other j d)))
 
-  pub used-stored : k < slots T → k < length (T .peers) → usedCount T + bit (inUse p) ≡ usedCount (stored T k p) + bit (inUse (slot T k))
-  unfolding usedCount stored
+  pub used-stored : k < slots T → k < length (T .peers) → usedCount T + bit (inUse p) ≡ usedCount (withPeer T k p) + bit (inUse (slot T k))
+  unfolding usedCount withPeer
   used-stored h l = count-stored inUse h l
 
-  pub open-stored : k < slots T → k < length (T .peers) → openCount T + bit (running p) ≡ openCount (stored T k p) + bit (running (slot T k))
-  unfolding openCount stored
-  open-stored h l = count-stored running h l
+  pub open-stored : k < slots T → k < length (T .peers) → openCount T + bit (isOpen p) ≡ openCount (withPeer T k p) + bit (isOpen (slot T k))
+  unfolding openCount withPeer
+  open-stored h l = count-stored isOpen h l
 
 -- the number of records that the octets hold
 pub peers-held : (t : List ℕ) (n : ℕ) → length t ≡ 32 + size * n → length (decodeTable t .peers) ≡ n
@@ -263,8 +263,8 @@ unfolding decodeTable
 peers-held t n h = let q : (length t - 32) / size ≡ n = omega arith in length-peers _ _ ∙ q
 
 -- what `standing_of` shows
-pub standing-law : (T : Table) (k : ℕ) (u r : Bool) → u ≡ inUse (slot T k) → r ≡ running (slot T k) → _≡_ {A = Standing} (record { used = u; running = r }) (standingOf (slot T k))
-standing-law T k u r e q = λ i. record { used = e i; running = q i }
+pub standing-law : (T : Table) (k : ℕ) (u r : Bool) → u ≡ inUse (slot T k) → r ≡ isOpen (slot T k) → _≡_ {A = Standing} (record { used = u; opened = r }) (standingOf (slot T k))
+standing-law T k u r e q = λ i. record { used = e i; opened = q i }
 
 -- what `counts_after` shows: one slot's share is in the count, and the count of the others leaves room for it
 count-has : (f : ℕ → Bool) (n i : ℕ) → i < n → (bit (f i) ≤ countBelow f n) × (countBelow f n + 1 ≤ n + bit (f i))
@@ -281,29 +281,29 @@ share f n k x was h l e = let w = count-has f n k h in (omega (arith, w .0), ome
 balance : (r x u : ℕ) (was is : Bool) → r + bit was ≡ x + bit is → x + bit is ≡ u + bit was → r ≡ u
 balance r x u was is p q = omega arith
 
-module _ (t : List ℕ) (k : ℕ) (was : Standing) (C : Changed t k was) (h : Header) (e : h ≡ decodeTable t .header) where
+module _ (t : List ℕ) (k : ℕ) (h : Header) (was : Standing) (C : Changed t k h was) where
   below : k < slots (decodeTable t)
   below = omega (arith, C .fits, C .whole)
 
   used-now : h .used + bit (inUse (slot (decodeTable t) k)) ≡ usedCount (decodeTable t) + bit (was .used)
-  used-now = ap (λ (g : Header). g .used + bit (inUse (slot (decodeTable t) k))) e ∙ C .used
+  used-now = ap (λ (g : Header). g .used + bit (inUse (slot (decodeTable t) k))) (C .header) ∙ C .used
 
-  open-now : h .opened + bit (running (slot (decodeTable t) k)) ≡ openCount (decodeTable t) + bit (was .running)
-  open-now = ap (λ (g : Header). g .opened + bit (running (slot (decodeTable t) k))) e ∙ C .opened
+  open-now : h .opened + bit (isOpen (slot (decodeTable t) k)) ≡ openCount (decodeTable t) + bit (was .opened)
+  open-now = ap (λ (g : Header). g .opened + bit (isOpen (slot (decodeTable t) k))) (C .header) ∙ C .opened
 
   pub share-used : (bit (was .used) ≤ h .used) × (h .used ≤ 64)
   unfolding usedCount
   share-used = share (λ j. inUse (slot (decodeTable t) j)) (slots (decodeTable t)) k (h .used) (was .used) below (C .small) used-now
 
-  pub share-open : (bit (was .running) ≤ h .opened) × (h .opened ≤ 64)
+  pub share-open : (bit (was .opened) ≤ h .opened) × (h .opened ≤ 64)
   unfolding openCount
-  share-open = share (λ j. running (slot (decodeTable t) j)) (slots (decodeTable t)) k (h .opened) (was .running) below (C .small) open-now
+  share-open = share (λ j. isOpen (slot (decodeTable t) j)) (slots (decodeTable t)) k (h .opened) (was .opened) below (C .small) open-now
 
   pub after-used : (is : Bool) (r : ℕ) → is ≡ inUse (slot (decodeTable t) k) → r + bit (was .used) ≡ h .used + bit is → r ≡ usedCount (decodeTable t)
   after-used is r q w = balance r (h .used) _ (was .used) is w (ap (λ (b : Bool). h .used + bit b) q ∙ used-now)
 
-  pub after-open : (is : Bool) (r : ℕ) → is ≡ running (slot (decodeTable t) k) → r + bit (was .running) ≡ h .opened + bit is → r ≡ openCount (decodeTable t)
-  after-open is r q w = balance r (h .opened) _ (was .running) is w (ap (λ (b : Bool). h .opened + bit b) q ∙ open-now)
+  pub after-open : (is : Bool) (r : ℕ) → is ≡ isOpen (slot (decodeTable t) k) → r + bit (was .opened) ≡ h .opened + bit is → r ≡ openCount (decodeTable t)
+  after-open is r q w = balance r (h .opened) _ (was .opened) is w (ap (λ (b : Bool). h .opened + bit b) q ∙ open-now)
 
 -- what `slots_of` shows
 pub slots-law : (t : List ℕ) (h : Header) → sound t ≡ true → h ≡ decodeTable t .header → (h .slots ≡ slots (decodeTable t)) × (32 + size * h .slots ≡ length t)
@@ -332,6 +332,25 @@ module _ where
   went-absent true true (At j) e = let z : _≡_ {A = ℕ} 0 1 = cc in absurd (omega arith)
   went-absent true true Nothing e = (refl, (refl, refl))
 
+-- ---- what a look at the whole table found
+
+module _ (t : List ℕ) (whole : Bool) (h : Header) (L : Looked t whole h) where
+  pub looked-sound : not whole ≡ false → sound t ≡ true
+  looked-sound q = sound-by t whole (L .right) q
+
+  pub looked-header : not whole ≡ false → h ≡ decodeTable t .header
+  looked-header q = L .header (looked-sound q)
+
+  pub looked-own : not whole ≡ false → h .own ≡ decodeTable t .header .own
+  looked-own q = ap (λ (g : Header). g .own) (looked-header q)
+
+  pub looked-sized : not whole ≡ false → Sized t (h .slots)
+  looked-sized q = let w = slots-law t h (looked-sound q) (looked-header q) in record { number = w .0; long = omega (arith, w .1) }
+
+-- octets too few for a header
+pub not-looked : (t : List ℕ) (h : Header) → length t < 32 → Looked t false h
+not-looked t h l = record { right = not-long t l; header = λ e. absurd (clash e (sym (not-long t l))) }
+
 pub entry-at : (t a : List ℕ) (k : ℕ) → entry t a ≡ entry-is.At k → (sound t ≡ true) × ((usable (decodeTable t .header .own) a ≡ true) × (finds (decodeTable t) a ≡ At k))
 unfolding entry
 entry-at t a k e = went-at (sound t) (usable (decodeTable t .header .own) a) (finds (decodeTable t) a) k e
@@ -340,7 +359,7 @@ pub entry-absent : (t a : List ℕ) → entry t a ≡ entry-is.Absent → (sound
 unfolding entry
 entry-absent t a e = went-absent (sound t) (usable (decodeTable t .header .own) a) (finds (decodeTable t) a) e
 
-pub found-below : (T : Table) (a : List ℕ) (k : ℕ) → finds T a ≡ At k → (k < slots T) × (holds a (slot T k) ≡ true)
+pub found-below : (T : Table) (a : List ℕ) (k : ℕ) → finds T a ≡ At k → (k < slots T) × (belongs a (slot T k) ≡ true)
 unfolding finds
 found-below T a k e = first-at _ (slots T) k e
 
@@ -351,6 +370,6 @@ free-below-law T k e = last-at _ (slots T) k e
 pub entry-ready : (t a : List ℕ) (k : ℕ) → entry t a ≡ entry-is.At k → Ready t k
 entry-ready t a k e = let w = entry-at t a k e in ready t (w .0) k (found-below (decodeTable t) a k (w .1 .1) .0)
 
-pub none-holds : (T : Table) (a : List ℕ) → finds T a ≡ Nothing → (i : ℕ) → i < slots T → holds a (slot T i) ≡ false
+pub none-holds : (T : Table) (a : List ℕ) → finds T a ≡ Nothing → (i : ℕ) → i < slots T → belongs a (slot T i) ≡ false
 unfolding finds
-none-holds T a e i h = first-nothing (λ k. holds a (slot T k)) (slots T) e i h
+none-holds T a e i h = first-nothing (λ k. belongs a (slot T k)) (slots T) e i h

@@ -5,4 +5,4 @@ pub mod Laws
 pub mod Changed
 pub mod Kept
 pub mod Keys
-pub mod Fresh
+pub mod Initial

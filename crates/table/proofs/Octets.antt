@@ -14,7 +14,7 @@ use Rattle.record.specs.Layout.{encodePeer, decodePeer, decodeRun, runOf, runWi
 use Rattle.record.specs.Codec.{cut}
 use Rattle.record.specs.declared.Peer.{Peer}
 use Rattle.record.proofs.Laws.{enc-dec-peer, dec-enc-peer, ShapePeer, FitPeer, shape-peer, length-peer, bytes-peer, peer-at, enc-dec-header, dec-enc-header, length-header, bytes-header, header-front, counted-put, num-part, FitHeader}
-use Rattle.table.specs.Table.{Table, size, peersOf, octetsOf, decodeTable, encodeTable, slot, recounted, stored, placed, usedCount, openCount}
+use Rattle.table.specs.Table.{Table, size, peersOf, octetsOf, decodeTable, encodeTable, slot, recounted, withPeer, placed, usedCount, openCount}
 
 -- the record that lies in a slot's octets
 unfoldable pub recordAt : List ℕ → ℕ → Peer
@@ -113,10 +113,10 @@ state-of t k =
     ∙ ap num (part-part (part t (32 + size * k) size) 7 (runSize width) 0 1 (lit≤ tt) ∙ part-of t k 7 1 (39 + size * k) (lit≤ tt) (omega arith))
 
 -- STORING A RECORD is `set` on the list of records, and its octets put in the slot's place
-pub stored-octets : (t : List ℕ) (n k : ℕ) (p : Peer) → Bytes t → length t ≡ 32 + size * n → k < n → ShapePeer width p
-    → encodeTable (stored (decodeTable t) k p) ≡ put t (32 + size * k) (encodePeer p)
-unfolding encodeTable stored decodeTable
-stored-octets t n k p b h l f =
+pub with-peer-octets : (t : List ℕ) (n k : ℕ) (p : Peer) → Bytes t → length t ≡ 32 + size * n → k < n → ShapePeer width p
+    → encodeTable (withPeer (decodeTable t) k p) ≡ put t (32 + size * k) (encodePeer p)
+unfolding encodeTable withPeer decodeTable
+with-peer-octets t n k p b h l f =
     let q : (length t - 32) / size ≡ n = omega arith in
     let m : length (drop 32 t) ≡ size * n = length-drop 32 t ∙ omega arith in
     rw (q, enc-dec-header t b (omega arith), set-octets n k (drop 32 t) p (bytes-drop 32 t b) m l (length-peer width p f)) (put-after 32 (size * k) t (encodePeer p))
@@ -136,10 +136,10 @@ recount-law t v n u o b h e eu eo =
 -- A RECORD PLACED, with its counts, is two puts
 pub placed-octets : (t : List ℕ) (n k : ℕ) (p : Peer) → Bytes t → length t ≡ 32 + size * n → k < n → ShapePeer width p
     → encodeTable (placed (decodeTable t) k p) ≡
-    put (put t (32 + size * k) (encodePeer p)) 2 (oct 2 (usedCount (stored (decodeTable t) k p)) ++ oct 2 (openCount (stored (decodeTable t) k p)))
+    put (put t (32 + size * k) (encodePeer p)) 2 (oct 2 (usedCount (withPeer (decodeTable t) k p)) ++ oct 2 (openCount (withPeer (decodeTable t) k p)))
 unfolding placed recounted
 placed-octets t n k p b h l f =
-    sym (ap (λ (x : List ℕ). put x 2 (oct 2 (usedCount (stored (decodeTable t) k p)) ++ oct 2 (openCount (stored (decodeTable t) k p)))) (sym (stored-octets t n k p b h l f)) ∙ counts-put (stored (decodeTable t) k p) _ _)
+    sym (ap (λ (x : List ℕ). put x 2 (oct 2 (usedCount (withPeer (decodeTable t) k p)) ++ oct 2 (openCount (withPeer (decodeTable t) k p)))) (sym (with-peer-octets t n k p b h l f)) ∙ counts-put (withPeer (decodeTable t) k p) _ _)
 
 -- EVERY OTHER OCTET stays: before the counts, between them and the slot, and past the slot
 pub placed-outside : (t : List ℕ) (n k : ℕ) (p : Peer) (at m : ℕ) → Bytes t → length t ≡ 32 + size * n → k < n → ShapePeer width p
@@ -149,11 +149,11 @@ placed-outside t n k p at m b h l f w =
     ap (λ (x : List ℕ). part x at m) (placed-octets t n k p b h l f) ∙ go w
   where
     v : List ℕ
-    v = oct 2 (usedCount (stored (decodeTable t) k p)) ++ oct 2 (openCount (stored (decodeTable t) k p))
+    v = oct 2 (usedCount (withPeer (decodeTable t) k p)) ++ oct 2 (openCount (withPeer (decodeTable t) k p))
 
     lv : length v ≡ 4
-    lv = length-append (oct 2 (usedCount (stored (decodeTable t) k p))) (oct 2 (openCount (stored (decodeTable t) k p)))
-        ∙ omega (arith, length-oct 2 (usedCount (stored (decodeTable t) k p)), length-oct 2 (openCount (stored (decodeTable t) k p)))
+    lv = length-append (oct 2 (usedCount (withPeer (decodeTable t) k p))) (oct 2 (openCount (withPeer (decodeTable t) k p)))
+        ∙ omega (arith, length-oct 2 (usedCount (withPeer (decodeTable t) k p)), length-oct 2 (openCount (withPeer (decodeTable t) k p)))
 
     lp : length (encodePeer p) ≡ size
     lp = length-peer width p f

@@ -1,3 +1,3 @@
 -- What the contracts of `table` cite.
 pub mod Table
-pub mod Fresh
+pub mod Initial

@@ -1,6 +1,6 @@
 -- The lent table as a value, a header and a list of records: its octets, its form, its searches, and a record placed in a slot.
 use mathlib.Core.Path.{_≡_}
-use mathlib.Core.Bool.{Bool, not, _&&_, _||_}
+use mathlib.Core.Bool.{Bool, true, not, _&&_, _||_}
 use mathlib.Core.List.{List, [], _∷_, _++_}
 use Prim.Native.Nat.{ℕ, zero, suc, _+_, _-_, _*_, _/_, _≤_, _<_}
 use lib.Dec.{eqb, leb}
@@ -13,8 +13,10 @@ use Rattle.groups.specs.Groups.{width}
 use Rattle.record.specs.declared.Peer.{Peer}
 use Rattle.record.specs.declared.Header.{Header}
 use Rattle.record.specs.Layout.{encodePeer, decodePeer, encodeHeader, decodeHeader, counted, groupsOf, recordSize, noPeer}
-use Rattle.form.specs.Form.{usable, headerOk, peerOk}
+use Rattle.soundness.specs.Soundness.{usable, headerOk, peerOk}
 use Rattle.table.specs.declared.Standing.{Standing}
+use Rattle.table.specs.declared.Checked.{Checked}
+use Rattle.table.specs.declared.Entrance.{Entrance}
 use Rattle.table.specs.declared.Entry.{Entry}
 use Rattle.table.specs.declared.Entry.the-variants as entry-is
 
@@ -56,23 +58,23 @@ abbrev pub inUse : Peer → Bool
 inUse p = eqb (p .used) 1
 
 -- "Open, the records whose run is Committed or Confirmed"
-abbrev pub running : Peer → Bool
-running p = eqb (p .run .state) 1 || eqb (p .run .state) 2
+abbrev pub isOpen : Peer → Bool
+isOpen p = eqb (p .run .state) 1 || eqb (p .run .state) 2
 
 -- a record in use that has the address
-unfoldable pub holds : List ℕ → Peer → Bool
-holds a p = inUse p && sameAddress (p .address) a
+unfoldable pub belongs : List ℕ → Peer → Bool
+belongs a p = inUse p && sameAddress (p .address) a
 
 -- "2–3 slots in use; 4–5 Open"
 unfoldable pub usedCount : Table → ℕ
 usedCount T = countBelow (λ k. inUse (slot T k)) (slots T)
 
 unfoldable pub openCount : Table → ℕ
-openCount T = countBelow (λ k. running (slot T k)) (slots T)
+openCount T = countBelow (λ k. isOpen (slot T k)) (slots T)
 
 -- the slot of an address
 unfoldable pub finds : Table → List ℕ → Found
-finds T a = firstBelow (λ k. holds a (slot T k)) (slots T)
+finds T a = firstBelow (λ k. belongs a (slot T k)) (slots T)
 
 -- "A new peer takes the free slot nearest the end."
 unfoldable pub freeSlot : Table → Found
@@ -94,7 +96,7 @@ slotsOk T = allBelow (λ k. peerOk (T .header .own) (groupsOf (T .header)) (slot
 
 -- no slot before has the address of this one, if it is in use
 unfoldable pub alone : Table → ℕ → Bool
-alone T k = not (inUse (slot T k)) || allBelow (λ j. not (holds (slot T k .address) (slot T j))) k
+alone T k = not (inUse (slot T k)) || allBelow (λ j. not (belongs (slot T k .address) (slot T j))) k
 
 -- "Addresses differ."
 unfoldable pub addressesOk : Table → Bool
@@ -131,23 +133,24 @@ entry t a =
 unfoldable pub recounted : Table → Table
 recounted T = record { header = counted (T .header) (usedCount T) (openCount T); peers = T .peers }
 
-unfoldable pub stored : Table → ℕ → Peer → Table
-stored T k p = record { header = T .header; peers = set (T .peers) k p }
+unfoldable pub withPeer : Table → ℕ → Peer → Table
+withPeer T k p = record { header = T .header; peers = set (T .peers) k p }
 
 unfoldable pub placed : Table → ℕ → Peer → Table
-placed T k p = recounted (stored T k p)
+placed T k p = recounted (withPeer T k p)
 
 -- what a record adds to the two counts
 abbrev pub standingOf : Peer → Standing
-standingOf p = record { used = inUse p; running = running p }
+standingOf p = record { used = inUse p; opened = isOpen p }
 
 -- what `recount` asks of the octets: a table of the right length whose counts are true but for one record's share, which is still what it was
-pub record Changed (t : List ℕ) (k : ℕ) (was : Standing) : Type 0 where
+pub record Changed (t : List ℕ) (k : ℕ) (h : Header) (was : Standing) : Type 0 where
   pub fits : 32 + size * k + size ≤ length t
   pub whole : length t ≡ 32 + size * slots (decodeTable t)
   pub small : slots (decodeTable t) ≤ 64
+  pub header : h ≡ decodeTable t .header
   pub used : decodeTable t .header .used + bit (inUse (slot (decodeTable t) k)) ≡ usedCount (decodeTable t) + bit (was .used)
-  pub opened : decodeTable t .header .opened + bit (running (slot (decodeTable t) k)) ≡ openCount (decodeTable t) + bit (was .running)
+  pub opened : decodeTable t .header .opened + bit (isOpen (slot (decodeTable t) k)) ≡ openCount (decodeTable t) + bit (was .opened)
 
 -- what a change of a slot's record asks of the octets: a slot of a table whose length and counts are right
 pub record Ready (t : List ℕ) (k : ℕ) : Type 0 where
@@ -176,3 +179,29 @@ pub record Whole (t : List ℕ) (h : Header) (n : ℕ) : Type 0 where
   pub few : n ≤ 64
   pub some : 1 ≤ h .count
   pub most : h .count ≤ 2
+
+-- ---- what is loaded once and handed on
+
+-- the header of octets that have one
+pub record Headed (t : List ℕ) (h : Header) : Type 0 where
+  pub long : 32 ≤ length t
+  pub header : h ≡ decodeTable t .header
+
+-- the number of slots
+pub record Sized (t : List ℕ) (n : ℕ) : Type 0 where
+  pub number : n ≡ slots (decodeTable t)
+  pub long : 32 + size * n ≤ length t
+
+-- whether the table is sound, and if so its header; of another table the header is left open, since nothing is done with it
+pub record Looked (t : List ℕ) (whole : Bool) (h : Header) : Type 0 where
+  pub right : whole ≡ sound t
+  pub header : sound t ≡ true → h ≡ decodeTable t .header
+
+-- what `check` finds
+abbrev pub Checks : Checked → List ℕ → Type 0
+Checks r t = Looked t (r .sound) (r .header)
+
+-- what `enter` finds: what the address comes to, and a sound table's header
+pub record Enters (r : Entrance) (t a : List ℕ) : Type 0 where
+  pub entry : r .entry ≡ entry t a
+  pub header : sound t ≡ true → r .header ≡ decodeTable t .header

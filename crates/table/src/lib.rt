@@ -8,9 +8,9 @@ ghost use lib.ListN.{length, getD, replicate};
 ghost use Rattle.octets.specs.Octets.{num};
 ghost use Rattle.octets.specs.Scan.{allBelow, countBelow, firstBelow, lastBelow, bit};
 ghost use Rattle.record.specs.Layout.{encodeHeader};
-ghost use Rattle.form.specs.Form.{peerOk};
-ghost use Rattle.table.specs.Table.{size, decodeTable, encodeTable, slots, slot, inUse, running, finds, freeSlot, usedCount, openCount, slotsOk, alone, addressesOk, countsOk, sound, entry, recounted, key, newKey, standingOf, Changed, Whole};
-ghost use Rattle.table.specs.Fresh.{slotsFor, lengthOk, freshHeader, freshOk, initial};
+ghost use Rattle.soundness.specs.Soundness.{peerOk};
+ghost use Rattle.table.specs.Table.{size, decodeTable, encodeTable, slots, slot, inUse, isOpen, finds, freeSlot, usedCount, openCount, slotsOk, alone, addressesOk, countsOk, sound, entry, recounted, key, newKey, standingOf, Changed, Whole, Headed, Sized, Looked, Checks, Enters};
+ghost use Rattle.table.specs.Initial.{slotsFor, lengthOk, initialHeader, initialOk, initial};
 use octets::Found;
 use record::HEADER;
 use record::Header;
@@ -28,6 +28,18 @@ pub enum Entry {
     Unusable,
     Absent,
     At(usize),
+}
+
+// What a look at the whole table finds: whether it is sound, and its header.
+pub struct Checked {
+    pub sound: bool,
+    pub header: Header,
+}
+
+// What an address comes to, and the table's header.
+pub struct Entrance {
+    pub entry: Entry,
+    pub header: Header,
 }
 
 // ---- one slot
@@ -77,9 +89,9 @@ fn is_used(t: &[u8], k: usize) -> bool
     used_at(t, k) == 1
 }
 
-pub fn is_running(t: &[u8], k: usize) -> bool
+pub fn is_open(t: &[u8], k: usize) -> bool
     requires { ⌜ 32 + size * k + size ≤ length (now t) ⌝ }
-    ensures { λ r. ⌜ r ≡ running (slot (decodeTable (now (t .entry))) k) ⌝ }
+    ensures { λ r. ⌜ r ≡ isOpen (slot (decodeTable (now (t .entry))) k) ⌝ }
 {
     let state = state_at(t, k);
     (state == 1) | (state == 2)
@@ -136,14 +148,14 @@ fn free_below(t: &[u8], n: usize) -> Found
 // The two counts over the slots below n, in one pass.
 fn counts_below(t: &[u8], n: usize) -> Counts
     requires { ⌜ (32 + size * n ≤ length (now t)) × (n ≤ 64) ⌝ }
-    ensures { λ r. ⌜ (r .used ≡ countBelow (λ k. inUse (slot (decodeTable (now (t .entry))) k)) n) × (r .opened ≡ countBelow (λ k. running (slot (decodeTable (now (t .entry))) k)) n) ⌝ }
+    ensures { λ r. ⌜ (r .used ≡ countBelow (λ k. inUse (slot (decodeTable (now (t .entry))) k)) n) × (r .opened ≡ countBelow (λ k. isOpen (slot (decodeTable (now (t .entry))) k)) n) ⌝ }
 {
     let mut used: usize = 0;
     let mut opened: usize = 0;
     let mut i = 0;
     while i < n {
         used += octets::one_if(is_used(t, i));
-        opened += octets::one_if(is_running(t, i));
+        opened += octets::one_if(is_open(t, i));
         i += 1;
     }
     Counts {
@@ -160,7 +172,7 @@ fn slot_ok(t: &[u8], k: usize, own: [u8; 6], groups: &[u16]) -> bool
 {
     let a = HEADER + RECORD * k;
     let e = a + RECORD;
-    form::peer_ok(&t[a..e], own, groups)
+    soundness::peer_ok(&t[a..e], own, groups)
 }
 
 // Every slot below n has its form: one pass over the records.
@@ -291,15 +303,12 @@ pub fn header_of(t: &[u8]) -> Header
     record::load_header(t)
 }
 
-// The whole form of the table, for octets of any number and content.
-pub fn is_sound(t: &[u8]) -> bool
+// The whole form of a table under its header.
+fn is_whole(t: &[u8], h: Header) -> bool
+    requires { ⌜ Headed (now t) h ⌝ }
     ensures { λ r. ⌜ r ≡ sound (now (t .entry)) ⌝ }
 {
-    if t.len() < HEADER {
-        return false;
-    }
-    let h = header_of(t);
-    if !form::header_ok(h) {
+    if !soundness::header_ok(h) {
         return false;
     }
     let n = h.slots as usize;
@@ -309,50 +318,72 @@ pub fn is_sound(t: &[u8]) -> bool
     body_ok(t, h, n)
 }
 
-// ---- a sound table
-
-pub fn slots_of(t: &[u8]) -> usize
-    requires { ⌜ sound (now t) ≡ true ⌝ }
-    ensures { λ r. ⌜ (r ≡ slots (decodeTable (now (t .entry)))) × (32 + size * r ≡ length (now (t .entry))) ⌝ }
+// The whole form of the table, for octets of any number and content; the header is loaded here and handed on.
+pub fn check(t: &[u8]) -> Checked
+    ensures { λ r. ⌜ Checks r (now (t .entry)) ⌝ }
 {
+    if t.len() < HEADER {
+        let none = record::no_header();
+        return Checked {
+            sound: false,
+            header: none,
+        };
+    }
     let h = header_of(t);
-    h.slots as usize
+    let sound = is_whole(t, h);
+    Checked {
+        sound: sound,
+        header: h,
+    }
 }
 
+// ---- a sound table
+
 // The slot of an address.
-pub fn find(t: &[u8], a: [u8; 6]) -> Found
-    requires { ⌜ sound (now t) ≡ true ⌝ }
+fn find(t: &[u8], n: usize, a: [u8; 6]) -> Found
+    requires { ⌜ Sized (now t) n ⌝ }
     ensures { λ r. ⌜ r ≡ finds (decodeTable (now (t .entry))) a ⌝ }
 {
-    let n = slots_of(t);
     let x = octets::packed(a);
     find_below(t, n, x)
 }
 
 // "A new peer takes the free slot nearest the end."
-pub fn free_slot(t: &[u8]) -> Found
-    requires { ⌜ sound (now t) ≡ true ⌝ }
+pub fn free_slot(t: &[u8], n: usize) -> Found
+    requires { ⌜ Sized (now t) n ⌝ }
     ensures { λ r. ⌜ r ≡ freeSlot (decodeTable (now (t .entry))) ⌝ }
 {
-    let n = slots_of(t);
     free_below(t, n)
 }
 
-// Causes 2 and 3, then the record's slot.
-pub fn enter(t: &[u8], a: [u8; 6]) -> Entry
+// What an address comes to, the table being sound or not.
+fn entry_of(t: &[u8], whole: bool, h: Header, a: [u8; 6]) -> Entry
+    requires { ⌜ Looked (now t) whole h ⌝ }
     ensures { λ r. ⌜ r ≡ entry (now (t .entry)) a ⌝ }
 {
-    if !is_sound(t) {
+    if !whole {
         return Entry::Unsound;
     }
-    let h = header_of(t);
     let own = h.own;
-    if !form::is_usable(own, a) {
+    if !soundness::is_usable(own, a) {
         return Entry::Unusable;
     }
-    match find(t, a) {
+    match find(t, h.slots as usize, a) {
         Found::At(k) => Entry::At(k),
         Found::Nothing => Entry::Absent,
+    }
+}
+
+// Causes 2 and 3, then the record's slot.
+pub fn enter(t: &[u8], a: [u8; 6]) -> Entrance
+    ensures { λ r. ⌜ Enters r (now (t .entry)) a ⌝ }
+{
+    let c = check(t);
+    let h = c.header;
+    let entry = entry_of(t, c.sound, h, a);
+    Entrance {
+        entry: entry,
+        header: h,
     }
 }
 
@@ -361,7 +392,7 @@ pub fn enter(t: &[u8], a: [u8; 6]) -> Entry
 // What a record adds to the two counts.
 pub struct Standing {
     pub used: bool,
-    pub running: bool,
+    pub opened: bool,
 }
 
 pub fn standing_of(t: &[u8], k: usize) -> Standing
@@ -369,10 +400,10 @@ pub fn standing_of(t: &[u8], k: usize) -> Standing
     ensures { λ r. ⌜ r ≡ standingOf (slot (decodeTable (now (t .entry))) k) ⌝ }
 {
     let used = is_used(t, k);
-    let running = is_running(t, k);
+    let opened = is_open(t, k);
     Standing {
         used: used,
-        running: running,
+        opened: opened,
     }
 }
 
@@ -387,13 +418,12 @@ fn moved(n: u16, was: bool, is: bool) -> u16
 }
 
 // The counts with the record that a slot has now, where another one's share was counted before.
-fn counts_after(t: &[u8], k: usize, was: Standing) -> Counts
-    requires { ⌜ Changed (now t) k was ⌝ }
+fn counts_after(t: &[u8], k: usize, h: Header, was: Standing) -> Counts
+    requires { ⌜ Changed (now t) k h was ⌝ }
     ensures { λ r. ⌜ (r .used ≡ usedCount (decodeTable (now (t .entry)))) × (r .opened ≡ openCount (decodeTable (now (t .entry)))) ⌝ }
 {
-    let h = header_of(t);
     let used = moved(h.used, was.used, is_used(t, k));
-    let opened = moved(h.opened, was.running, is_running(t, k));
+    let opened = moved(h.opened, was.opened, is_open(t, k));
     Counts {
         used: used,
         opened: opened,
@@ -401,11 +431,11 @@ fn counts_after(t: &[u8], k: usize, was: Standing) -> Counts
 }
 
 // The counts are made true once the record of a slot was changed where it lies.
-pub fn recount(t: &mut [u8], k: usize, was: Standing)
-    requires { ⌜ Changed (now t) k was ⌝ }
+pub fn recount(t: &mut [u8], k: usize, h: Header, was: Standing)
+    requires { ⌜ Changed (now t) k h was ⌝ }
     ensures { λ _. ⌜ now (t .exit) ≡ encodeTable (recounted (decodeTable (now (t .entry)))) ⌝ }
 {
-    let n = counts_after(t, k, was);
+    let n = counts_after(t, k, h, was);
     record::set_counts(t, n.used, n.opened);
 }
 
@@ -429,17 +459,17 @@ fn length_ok(n: usize) -> bool
     (1 <= k) & ((k <= 64) & ((n - HEADER) % RECORD == 0))
 }
 
-fn fresh_ok(s: Settings, own: [u8; 6], n: usize) -> bool
-    ensures { λ r. ⌜ r ≡ freshOk s own n ⌝ }
+fn initial_ok(s: Settings, own: [u8; 6], n: usize) -> bool
+    ensures { λ r. ⌜ r ≡ initialOk s own n ⌝ }
 {
-    let settings = form::settings_ok(s);
-    let owner = form::own_ok(own);
+    let settings = soundness::settings_ok(s);
+    let owner = soundness::own_ok(own);
     let length = length_ok(n);
     settings & (owner & length)
 }
 
-fn fresh_header(s: Settings, own: [u8; 6], n: u16) -> Header
-    ensures { λ r. ⌜ r ≡ freshHeader s own n ⌝ }
+fn initial_header(s: Settings, own: [u8; 6], n: u16) -> Header
+    ensures { λ r. ⌜ r ≡ initialHeader s own n ⌝ }
 {
     let gs = s.groups;
     Header {
@@ -463,19 +493,19 @@ fn fill(t: &mut [u8], h: Header)
     requires { ⌜ 32 ≤ length (now t) ⌝ }
     ensures { λ _. ⌜ now (t .exit) ≡ encodeHeader h ++ replicate (length (now (t .entry)) - 32) 0 ⌝ }
 {
-    fields::clear(&mut t[HEADER..]);
+    record::clear(&mut t[HEADER..]);
     record::store_header(&mut t[0..HEADER], h);
 }
 
-// The fresh table goes into a lent buffer, or, false, cause 1 holds and the buffer stays as it was.
-pub fn write_fresh(t: &mut [u8], own: [u8; 6], s: Settings) -> bool
-    ensures { λ r. ⌜ (r ≡ freshOk s own (length (now (t .entry)))) × (now (t .exit) ≡ initial s own (now (t .entry))) ⌝ }
+// The initial table goes into a lent buffer, or, false, cause 1 holds and the buffer stays as it was.
+pub fn write_initial(t: &mut [u8], own: [u8; 6], s: Settings) -> bool
+    ensures { λ r. ⌜ (r ≡ initialOk s own (length (now (t .entry)))) × (now (t .exit) ≡ initial s own (now (t .entry))) ⌝ }
 {
     let n = t.len();
-    if !fresh_ok(s, own, n) {
+    if !initial_ok(s, own, n) {
         return false;
     }
-    let h = fresh_header(s, own, slots_for(n) as u16);
+    let h = initial_header(s, own, slots_for(n) as u16);
     fill(t, h);
     true
 }

@@ -9,12 +9,12 @@
 ghost use mathlib.Core.Path.{_≡_};
 ghost use Prim.Native.Nat.{_<_, _≤_};
 ghost use lib.ListN.{length};
-use acts::Event;
-use acts::Frame;
-use acts::Frames;
+use answers::Answer;
 use frame::Body;
 use record::Settings;
-use turn::Answer;
+use rules::Event;
+use rules::Frame;
+use rules::Frames;
 
 // Our own address, and the peer's.
 const OWN: [u8; 6] = [2, 0, 0, 0, 0, 1];
@@ -120,9 +120,9 @@ fn print_answer(a: Answer) {
     let o = a.outcome;
     let e = a.event;
     let fs = a.frames;
-    number(wide32(turn::returned_of(o)));
+    number(wide32(answers::returned_of(o)));
     number(event_number(e));
-    number(wide16(a.fresh));
+    number(wide16(a.afresh));
     print_frames(fs);
     ends();
 }

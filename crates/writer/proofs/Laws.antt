@@ -19,14 +19,14 @@ use Rattle.frame.proofs.Laws.{outside, drawn}
 use Rattle.record.specs.declared.Header.{Header}
 use Rattle.record.specs.declared.Peer.{Peer}
 use Rattle.record.specs.Layout.{groupsOf, decodeHeader, headerOf}
-use Rattle.form.specs.Form.{peerOk, headerOk}
-use Rattle.form.proofs.Laws.{header-form, groups-form, InUse, peer-in-use, run-states, run-is-committed, run-is-confirmed}
-use Rattle.table.specs.Table.{Table, decodeTable, size, slot, slots, sound, entry, finds, holds}
+use Rattle.soundness.specs.Soundness.{peerOk, headerOk}
+use Rattle.soundness.proofs.Laws.{header-form, groups-form, InUse, peer-in-use, run-states, run-is-committed, run-is-confirmed}
+use Rattle.table.specs.Table.{Table, decodeTable, size, slot, slots, sound, entry, finds, belongs}
 use Rattle.table.specs.declared.Entry.{Entry}
 use Rattle.table.specs.declared.Entry.the-variants.{Unsound, Unusable, Absent, At}
 use Rattle.table.proofs.Laws.{sound-by, sound-long, sound-header, sound-peer, entry-at, entry-ready, found-below}
-use Rattle.turn.specs.declared.Refusal.{Refusal}
-use Rattle.turn.specs.declared.Refusal.the-variants as why
+use Rattle.answers.specs.declared.Refusal.{Refusal}
+use Rattle.answers.specs.declared.Refusal.the-variants as why
 use Rattle.writer.specs.declared.Wrote.{Wrote}
 use Rattle.writer.specs.declared.Wrote.the-variants as wrote
 use Rattle.writer.specs.Writer.{LeavesOut, refuseOut, wroteOf, draws, writesParts, recordCommit, recordConfirm, recordBody, Bounded, writesRecordBy, writesRecord}
@@ -62,7 +62,7 @@ module _ (t : List ℕ) (s : sound t ≡ true) (h : Header) (e : h ≡ decodeTab
 -- ---- from a frame's parts
 
 module _ (t : List ℕ) (q x g n : ℕ) (token rest out : List ℕ) (b : Bool) (p : b ≡ sound t) where
-  pub parts-unsound : not b ≡ true → LeavesOut (wrote.Refused why.Form) out (writesParts t q x g n token rest out)
+  pub parts-unsound : not b ≡ true → LeavesOut (wrote.Refused why.Unsound) out (writesParts t q x g n token rest out)
   unfolding writesParts
   parts-unsound k = let z : sound t ≡ false = sym p ∙ not-true b k in rw z (record { answer = refl; out = refl })
 
@@ -120,7 +120,7 @@ module _ (gs : List ℕ) (p : Peer) (q : ℕ) (value out : List ℕ) where
 
 -- the record of an address in a sound table
 pub in-use-at : (t a : List ℕ) (k : ℕ) → entry t a ≡ At k → InUse (decodeTable t .header .own) (groupsOf (decodeTable t .header)) (slot (decodeTable t) k)
-unfolding holds
+unfolding belongs
 in-use-at t a k e =
     let w = entry-at t a k e in
     let f = found-below (decodeTable t) a k (w .1 .1) in
@@ -139,9 +139,9 @@ module _ (t a : List ℕ) (e : Entry) (m : e ≡ entry t a) where
   record-refused x c q value out k f = rw (f (entry t a) (sym m ∙ k)) (record { answer = refl; out = refl })
 
   module _ (q : ℕ) (value out : List ℕ) where
-    pub record-unsound : e ≡ Unsound → LeavesOut (wrote.Refused why.Form) out (writesRecord t a q value out)
+    pub record-unsound : e ≡ Unsound → LeavesOut (wrote.Refused why.Unsound) out (writesRecord t a q value out)
     unfolding writesRecordBy
-    record-unsound k = record-refused Unsound why.Form q value out k (λ y z. rw z)
+    record-unsound k = record-refused Unsound why.Unsound q value out k (λ y z. rw z)
 
     pub record-unusable : e ≡ Unusable → LeavesOut (wrote.Refused why.Address) out (writesRecord t a q value out)
     unfolding writesRecordBy

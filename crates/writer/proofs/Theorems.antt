@@ -25,15 +25,15 @@ use Rattle.frame.proofs.RoundTrip.{commit-reads, commit-token-back, commit-back
 use Rattle.record.specs.declared.Peer.{Peer}
 use Rattle.record.specs.Layout.{groupsOf}
 use Rattle.record.proofs.Laws.{FitPeer}
-use Rattle.form.specs.Form.{usable}
-use Rattle.form.proofs.Laws.{InUse, Token, run-states, run-is-committed, run-is-confirmed}
+use Rattle.soundness.specs.Soundness.{usable}
+use Rattle.soundness.proofs.Laws.{InUse, Token, run-states, run-is-committed, run-is-confirmed}
 use Rattle.table.specs.Table.{Table, decodeTable, size, slot, slots, sound, entry, foundEntry, finds}
 use Rattle.table.specs.declared.Entry.{Entry}
 use Rattle.table.specs.declared.Entry.the-variants.{Unsound, Unusable, Absent, At}
 use Rattle.table.proofs.Laws.{sound-whole, peers-held, entry-at, found-below}
 use Rattle.table.proofs.Fit.{fit-decoded, fit-slot}
-use Rattle.turn.specs.declared.Refusal.{Refusal}
-use Rattle.turn.specs.declared.Refusal.the-variants as why
+use Rattle.answers.specs.declared.Refusal.{Refusal}
+use Rattle.answers.specs.declared.Refusal.the-variants as why
 use Rattle.writer.specs.declared.Wrote.{Wrote}
 use Rattle.writer.specs.declared.Wrote.the-variants as wrote
 use Rattle.writer.specs.Writer.{LeftOut, refuseOut, draws, writesParts, recordCommit, recordConfirm, recordBody, writesRecordBy, writesRecord}
@@ -58,7 +58,7 @@ draws-one (Octets s) out = go (ltb (length out) (length s)) refl
 
 -- the writer from parts: 2, 7, 11
 pub data FromParts (t : List ℕ) (d : Drawn) (out : List ℕ) : LeftOut → Type 0 where
-  malformed : sound t ≡ false → FromParts t d out (refuseOut out why.Form)
+  malformed : sound t ≡ false → FromParts t d out (refuseOut out why.Unsound)
   made : {l : LeftOut} → sound t ≡ true → Draws d out l → FromParts t d out l
 
 module _ (t : List ℕ) (q x g n : ℕ) (token rest out : List ℕ) where
@@ -75,7 +75,7 @@ module _ (t : List ℕ) (q x g n : ℕ) (token rest out : List ℕ) where
 
 -- the writer from a record: 2, 3, 7 where there is no record, then 7 and 11 of the frame that was asked for
 pub data FromRecord (t a : List ℕ) (q : ℕ) (value out : List ℕ) : LeftOut → Type 0 where
-  unsound : sound t ≡ false → FromRecord t a q value out (refuseOut out why.Form)
+  unsound : sound t ≡ false → FromRecord t a q value out (refuseOut out why.Unsound)
   unusable : sound t ≡ true → usable (decodeTable t .header .own) a ≡ false → FromRecord t a q value out (refuseOut out why.Address)
   absent : sound t ≡ true → usable (decodeTable t .header .own) a ≡ true → finds (decodeTable t) a ≡ found.Nothing → FromRecord t a q value out (refuseOut out why.Body)
   drawn : {l : LeftOut} (k : ℕ) → sound t ≡ true → usable (decodeTable t .header .own) a ≡ true → finds (decodeTable t) a ≡ found.At k

@@ -15,9 +15,9 @@ use Rattle.record.specs.Layout.{groupsOf}
 use Rattle.table.specs.Table.{Table, decodeTable, slot, sound, entry}
 use Rattle.table.specs.declared.Entry.{Entry}
 use Rattle.table.specs.declared.Entry.the-variants.{Unsound, Unusable, Absent, At}
-use Rattle.acts.specs.Acts.{_is_, _isnt_}
-use Rattle.turn.specs.declared.Refusal.{Refusal}
-use Rattle.turn.specs.declared.Refusal.the-variants as why
+use Rattle.rules.specs.Book.{_is_, _isnt_}
+use Rattle.answers.specs.declared.Refusal.{Refusal}
+use Rattle.answers.specs.declared.Refusal.the-variants as why
 use Rattle.writer.specs.declared.Wrote.{Wrote}
 use Rattle.writer.specs.declared.Wrote.the-variants as wrote
 
@@ -47,7 +47,7 @@ draws d out = record { answer = wroteOf (written d out); out = leaves d out }
 unfoldable pub writesParts : List ℕ → ℕ → ℕ → ℕ → ℕ → List ℕ → List ℕ → List ℕ → LeftOut
 writesParts t sequence status group counter token rest out =
     if sound t then draws (partsBody (groupsOf (decodeTable t .header)) sequence status group counter token rest) out
-    else refuseOut out why.Form
+    else refuseOut out why.Unsound
 
 -- ---- from a record: causes 2, 3, 7, 11
 
@@ -77,7 +77,7 @@ pub record Bounded (p : Peer) : Type 0 where
   pub token : (p .run .state ≡ 0 → ⊥) → p .run .toklen ≤ 256
 
 unfoldable pub writesRecordBy : Entry → List ℕ → ℕ → List ℕ → List ℕ → LeftOut
-writesRecordBy Unsound t sequence value out = refuseOut out why.Form
+writesRecordBy Unsound t sequence value out = refuseOut out why.Unsound
 writesRecordBy Unusable t sequence value out = refuseOut out why.Address
 writesRecordBy Absent t sequence value out = refuseOut out why.Body
 writesRecordBy (At k) t sequence value out = draws (recordBody (groupsOf (decodeTable t .header)) (slot (decodeTable t) k) sequence value) out

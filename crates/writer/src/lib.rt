@@ -2,10 +2,10 @@
 ghost use mathlib.Core.Path.{_≡_};
 ghost use Rattle.frame.specs.Writing.{Writes};
 ghost use Rattle.writer.specs.Writer.{LeavesOut, wroteOf, writesParts, recordCommit, recordConfirm, recordBody, Bounded, writesRecord};
+use answers::Refusal;
 use frame::Written;
 use record::Peer;
 use table::Entry;
-use turn::Refusal;
 
 // What a writer answers: the length written, or a refusal.
 pub enum Wrote {
@@ -36,10 +36,12 @@ pub fn write_parts(
 ) -> Wrote
     ensures { λ r. ⌜ LeavesOut r (now (out .exit)) (writesParts (now (t .entry)) sequence status group counter (now (token .entry)) (now (rest .entry)) (now (out .entry))) ⌝ }
 {
-    if !table::is_sound(t) {
-        return Wrote::Refused(Refusal::Form);
+    let c = table::check(t);
+    let whole = c.sound;
+    if !whole {
+        return Wrote::Refused(Refusal::Unsound);
     }
-    let h = table::header_of(t);
+    let h = c.header;
     let list = h.groups;
     let n = h.count as usize;
     let w = frame::write_parts(
@@ -113,12 +115,14 @@ pub fn write_record(
 ) -> Wrote
     ensures { λ r. ⌜ LeavesOut r (now (out .exit)) (writesRecord (now (t .entry)) address sequence (now (value .entry)) (now (out .entry))) ⌝ }
 {
-    match table::enter(t, address) {
-        Entry::Unsound => Wrote::Refused(Refusal::Form),
+    let e = table::enter(t, address);
+    let h = e.header;
+    let entry = e.entry;
+    match entry {
+        Entry::Unsound => Wrote::Refused(Refusal::Unsound),
         Entry::Unusable => Wrote::Refused(Refusal::Address),
         Entry::Absent => Wrote::Refused(Refusal::Body),
         Entry::At(k) => {
-            let h = table::header_of(t);
             let list = h.groups;
             let n = h.count as usize;
             let p = table::load_peer(t, k);

@@ -1,46 +1,68 @@
+use mathlib.Core.Path.{_≡_}
+use lib.ListN.{length}
 use native.Mathlib.Omega.{arith}
-use Rattle.engine.proofs.Slots.{expire-asked, expire-does}
+use mathlib.Core.List.{[]}
+use Rattle.record.specs.Layout.{groupsOf}
+use Rattle.rules.specs.Book.{onClock}
+use Rattle.rules.specs.Given.{terms, call}
+use Rattle.engine.proofs.Headers.{held-header, held-ready, count-fits, listed-count, window-whole}
+use Rattle.engine.proofs.Windows.{at-step}
 use borrow.Author.Needs.{needs}
 use Rattle.engine.proofs.expire_at.Statement.{statement}
 use Rattle.engine.proofs.expire_at.Tie as tie
 
+two : (c : tie.Start) → length (c .args .h .groups) ≡ 2
+two c = search needs
+
+cast-n : tie.Need-cast-n
+cast-n c = search needs
+
 mul-a : tie.Need-mul-a
-mul-a c = search needs
+mul-a c = let k = c .before .before .before in omega (arith, held-ready _ (k .args .h) _ (k .pre) .fits)
 
 add-a : tie.Need-add-a
-add-a c = search needs
+add-a c = let k = c .before .before .before in omega (arith, held-ready _ (k .args .h) _ (k .pre) .fits)
 
 add-e : tie.Need-add-e
-add-e c = search needs
+add-e c = let k = c .before .before .before in omega (arith, held-ready _ (k .args .h) _ (k .pre) .fits)
 
-sub-on-expired : tie.Need-sub-on-expired
-sub-on-expired c = search needs
+sub-on-clock : tie.Need-sub-on-clock
+sub-on-clock c = search needs
 
-part-on-expired-start : tie.Need-part-on-expired-start
-part-on-expired-start c = search needs
+part-on-clock-start : tie.Need-part-on-clock-start
+part-on-clock-start c = search needs
 
-part-on-expired-end : tie.Need-part-on-expired-end
-part-on-expired-end c = search needs
+part-on-clock-end : tie.Need-part-on-clock-end
+part-on-clock-end c = let k = c .before .before .before in omega (arith, held-ready _ (k .args .h) _ (k .pre) .fits)
 
-on-expired-requires : tie.Need-on-expired-requires
-on-expired-requires c κs = let k = c .before .before in expire-asked (k .args .t .now) (k .args .k) (λ i. omega (arith, c .before .slice-known .given i)) (k .pre .0)
+array-share-prefix-list : tie.Need-array-share-prefix-list
+array-share-prefix-list c = let k = c .before .before .before .before in count-fits (k .args .h) (held-header _ _ _ (k .pre)) (two k)
+
+slice-aggregate-on-clock : tie.Need-slice-aggregate-on-clock
+slice-aggregate-on-clock c = let k = c .before .before .before .before .before in listed-count (k .args .h) (held-header _ _ _ (k .pre)) (two k)
+
+on-clock-requires : tie.Need-on-clock-requires
+on-clock-requires c κs = let k = c .before .before .before .before .before in window-whole _ (k .args .h) _ (k .pre) (λ i. omega (arith, c .before .before .before .before .slice-known .given i))
 
 same-length : tie.Need-same-length
 same-length c = search needs
 
 returns : tie.Need-returns
-returns c = let k = c .before .before .before .before .before in let y = c .before .before .on-expired in expire-does (k .args .t .now) (k .args .k) (k .pre .0) (y .last .0) (k .args .time) _ (search needs) (y .ensures)
+returns c = let k = c .before .before .before .before .before .before .before .before in at-step (k .args .t .now) (k .args .h) (k .args .k) (k .pre) (onClock (terms (k .args .g) (groupsOf (k .args .h))) (call (k .args .g) [])) _ _ (search needs) (c .before .before .on-clock .ensures)
 
 pub expire-at-spec : {M : Type 1} → statement M
 expire-at-spec =
     tie.close
     (tie.spec
+    cast-n
     mul-a
     add-a
     add-e
-    sub-on-expired
-    part-on-expired-start
-    part-on-expired-end
-    on-expired-requires
+    sub-on-clock
+    part-on-clock-start
+    part-on-clock-end
+    array-share-prefix-list
+    slice-aggregate-on-clock
+    on-clock-requires
     same-length
     returns)

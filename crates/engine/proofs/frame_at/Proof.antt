@@ -1,49 +1,68 @@
-use Rattle.engine.proofs.Frames.{window-steps, frame-at-does}
+use mathlib.Core.Path.{_≡_}
+use lib.ListN.{length}
+use native.Mathlib.Omega.{arith}
+use Rattle.record.specs.declared.Peer.{Peer}
+use Rattle.record.specs.Layout.{groupsOf}
+use Rattle.rules.specs.Book.{onFrame}
+use Rattle.rules.specs.Given.{terms, call}
+use Rattle.engine.proofs.Headers.{held-header, held-ready, count-fits, listed-count, window-whole, ready}
+use Rattle.engine.proofs.Windows.{at-step}
 use borrow.Author.Needs.{needs}
 use Rattle.engine.proofs.frame_at.Statement.{statement}
 use Rattle.engine.proofs.frame_at.Tie as tie
 
-header-of-requires : tie.Need-header-of-requires
-header-of-requires c κs = search needs
+two : (c : tie.Start) → length (c .args .h .groups) ≡ 2
+two c = search needs
+
+cast-n : tie.Need-cast-n
+cast-n c = search needs
 
 mul-a : tie.Need-mul-a
-mul-a c = search needs
+mul-a c = let k = c .before .before .before .before in omega (arith, held-ready _ (k .args .h) _ (k .pre .0) .fits)
 
 add-a : tie.Need-add-a
-add-a c = search needs
+add-a c = let k = c .before .before .before .before in omega (arith, held-ready _ (k .args .h) _ (k .pre .0) .fits)
 
 add-e : tie.Need-add-e
-add-e c = search needs
+add-e c = let k = c .before .before .before .before in omega (arith, held-ready _ (k .args .h) _ (k .pre .0) .fits)
 
-sub-frame-step : tie.Need-sub-frame-step
-sub-frame-step c = search needs
+sub-on-frame : tie.Need-sub-on-frame
+sub-on-frame c = search needs
 
-part-frame-step-start : tie.Need-part-frame-step-start
-part-frame-step-start c = search needs
+part-on-frame-start : tie.Need-part-on-frame-start
+part-on-frame-start c = search needs
 
-part-frame-step-end : tie.Need-part-frame-step-end
-part-frame-step-end c = search needs
+part-on-frame-end : tie.Need-part-on-frame-end
+part-on-frame-end c = let k = c .before .before .before .before in omega (arith, held-ready _ (k .args .h) _ (k .pre .0) .fits)
 
-frame-step-requires : tie.Need-frame-step-requires
-frame-step-requires c κs = window-steps (c .before .before .before .before .before .before .before .args .t .now) _ (c .before .header-of .result) _ (c .before .before .before .before .before .before .before .pre .0) (c .before .before .before .before .before .before .before .pre .1 .0) (c .before .header-of .ensures) (λ i. c .before .before .before .before .before .before .slice-known .given i .fits) (c .before .before .before .before .before .before .before .pre .1 .1)
+array-share-prefix-list : tie.Need-array-share-prefix-list
+array-share-prefix-list c = let k = c .before .before .before .before .before in count-fits (k .args .h) (held-header _ _ _ (k .pre .0)) (two k)
+
+slice-aggregate-on-frame : tie.Need-slice-aggregate-on-frame
+slice-aggregate-on-frame c = let k = c .before .before .before .before .before .before in listed-count (k .args .h) (held-header _ _ _ (k .pre .0)) (two k)
+
+on-frame-requires : tie.Need-on-frame-requires
+on-frame-requires c κs = let k = c .before .before .before .before .before .before in ready _ (k .args .h) _ (k .args .m) (window-whole _ (k .args .h) _ (k .pre .0) (λ i. omega (arith, c .before .before .before .before .before .slice-known .given i))) (k .pre .1 .0) (two k) (k .pre .1 .1)
 
 same-length : tie.Need-same-length
 same-length c = search needs
 
 returns : tie.Need-returns
-returns c = frame-at-does (c .before .before .before .before .before .before .before .before .before .before .args .t .now) _ (c .before .before .before .before .header-of .result) _ (c .before .before .before .before .before .before .before .before .before .before .pre .0) (c .before .before .before .before .before .before .before .before .before .before .pre .1 .0) (c .before .before .before .before .header-of .ensures) (c .before .before .frame-step .last .0) _ _ _ _ _ _ (search needs) (c .before .before .frame-step .ensures)
+returns c = let k = c .before .before .before .before .before .before .before .before .before in at-step (k .args .t .now) (k .args .h) (k .args .k) (k .pre .0) (λ (p : Peer). onFrame (terms (k .args .g) (groupsOf (k .args .h))) (call (k .args .g) (k .args .fresh .now)) p (k .args .m)) _ _ (search needs) (c .before .before .on-frame .ensures)
 
 pub frame-at-spec : {M : Type 1} → statement M
 frame-at-spec =
     tie.close
     (tie.spec
-    header-of-requires
+    cast-n
     mul-a
     add-a
     add-e
-    sub-frame-step
-    part-frame-step-start
-    part-frame-step-end
-    frame-step-requires
+    sub-on-frame
+    part-on-frame-start
+    part-on-frame-end
+    array-share-prefix-list
+    slice-aggregate-on-frame
+    on-frame-requires
     same-length
     returns)

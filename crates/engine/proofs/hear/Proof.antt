@@ -1,52 +1,63 @@
-use Rattle.engine.proofs.Slots.{slot-fits, slot-changed}
-use Rattle.engine.proofs.Frames.{seat-seated, unseated, hear-seated, hear-unseated}
+use native.Mathlib.Omega.{arith}
+use mathlib.Core.Path.{sym, _∙_}
+use Rattle.engine.proofs.Headers.{held-sized, held-at, held-ready}
+use Rattle.engine.proofs.Windows.{slot-changed}
+use Rattle.engine.proofs.Frames.{hear-seated, hear-unseated}
 use borrow.Author.Needs.{needs}
 use Rattle.engine.proofs.hear.Statement.{statement}
 use Rattle.engine.proofs.hear.Tie as tie
 
+cast-n : tie.Need-cast-n
+cast-n c = search needs
+
 seat-of-requires : tie.Need-seat-of-requires
-seat-of-requires c κs = search needs
+seat-of-requires c κs = let k = c .before .before .before .before in held-sized _ (k .args .h) _ (k .pre .0)
 
 enum-known-k : tie.Need-enum-known-k
 enum-known-k c = search needs
 
 standing-of-requires : tie.Need-standing-of-requires
-standing-of-requires c κs = slot-fits _ _ (seat-seated (c .before .before .before .before .before .before .before .before .before .before .args .t .now) _ _ (c .before .before .before .before .before .before .before .before .before .before .pre .0) (c .before .before .before .before .seat-of .ensures) _ (c .before .before .k .given .1))
+standing-of-requires c κs = let k = c .before .before .before .before .before .before .before .before .before in held-ready _ (k .args .h) _ (held-at _ (k .args .h) _ _ (k .pre .0) (sym (c .before .before .before .before .seat-of .ensures) ∙ c .before .before .k .given .1)) .fits
 
 frame-at-requires : tie.Need-frame-at-requires
-frame-at-requires c κs = let S = seat-seated (c .before .before .before .before .before .before .before .before .before .before .before .before .args .t .now) _ _ (c .before .before .before .before .before .before .before .before .before .before .before .before .pre .0) (c .before .before .before .before .before .before .seat-of .ensures) _ (c .before .before .before .before .k .given .1) in (S, (slot-fits _ _ S, c .before .before .before .before .before .before .before .before .before .before .before .before .pre .1))
+frame-at-requires c κs = let k = c .before .before .before .before .before .before .before .before .before .before .before in (held-at _ (k .args .h) _ _ (k .pre .0) (sym (c .before .before .before .before .before .before .seat-of .ensures) ∙ c .before .before .before .before .k .given .1), (k .pre .1 .0, k .pre .1 .1 .1))
 
 finish-at-requires : tie.Need-finish-at-requires
-finish-at-requires c κs = slot-changed (c .before .before .before .before .before .before .before .before .before .before .before .before .before .before .before .before .args .t .now) _ (seat-seated (c .before .before .before .before .before .before .before .before .before .before .before .before .before .before .before .before .args .t .now) _ _ (c .before .before .before .before .before .before .before .before .before .before .before .before .before .before .before .before .pre .0) (c .before .before .before .before .before .before .before .before .before .before .seat-of .ensures) _ (c .before .before .before .before .before .before .before .before .k .given .1)) (c .before .before .before .frame-at .last .0) _ _ _ (search needs) (c .before .before .before .frame-at .ensures) (c .before .before .before .before .before .standing-of .ensures)
+finish-at-requires c κs = let k = c .before .before .before .before .before .before .before .before .before .before .before .before .before .before .before .before in slot-changed _ (k .args .h) _ (held-at _ (k .args .h) _ _ (k .pre .0) (sym (c .before .before .before .before .before .before .before .before .before .before .before .seat-of .ensures) ∙ c .before .before .before .before .before .before .before .before .before .k .given .1)) _ _ _ _ (search needs) (c .before .before .before .before .frame-at .ensures) (c .before .before .before .before .before .before .standing-of .ensures)
 
 enum-told : tie.Need-enum-told
 enum-told c = search needs
 
+without-slot-requires : tie.Need-without-slot-requires
+without-slot-requires c κs = search needs
+
 hear-outside-requires : tie.Need-hear-outside-requires
-hear-outside-requires c κs = let w = unseated (c .before .before .before .before .before .before .before .before .before .args .t .now) _ _ (c .before .before .before .before .before .before .before .before .before .pre .0) (c .before .before .before .seat-of .ensures) (c .before .enum-told .given .1) in ((w .0, c .before .before .before .before .before .before .before .before .before .pre .1), w .1)
+hear-outside-requires c κs = search needs
 
 same-length : tie.Need-same-length
 same-length c = search needs
 
 returns : tie.Need-returns
-returns c = hear-seated (c .before .before .before .before .before .before .before .before .before .before .before .before .before .before .before .before .before .before .before .args .t .now) _ _ (c .before .before .before .before .before .before .before .before .before .before .before .before .before .before .before .before .before .before .before .pre .0) (c .before .before .before .before .before .before .before .before .before .before .before .before .before .seat-of .ensures) _ _ _ _ _ _ _ (c .before .before .before .before .before .before .frame-at .last .0) _ _ _ (λ i. c .before .before .before .before .before .before .before .before .before .before .before .before .before .before .before .before .before .before .slice-known .given i .fits) (c .before .before .before .before .before .before .before .before .before .before .before .k .given .1) (c .before .before .before .before .before .before .frame-at .ensures) (c .before .before .finish-at .ensures)
+returns c = let k = c .before .before .before .before .before .before .before .before .before .before .before .before .before .before .before .before .before .before .before in hear-seated (k .args .t .now) (k .args .h) (k .args .f) (k .pre .0) (k .args .g) (k .pre .1 .1 .0) (k .args .m) (k .args .fresh .now) _ _ _ _ _ _ (λ i. omega (arith, c .before .before .before .before .before .before .before .before .before .before .before .before .before .before .before .before .before .before .slice-known .given i)) (c .before .before .before .before .before .before .before .before .before .before .before .before .before .before .seat-of .ensures) (c .before .before .before .before .before .before .before .before .before .before .before .before .k .given .1) (c .before .before .before .before .before .before .before .frame-at .ensures) (c .before .before .finish-at .ensures)
 
 same-length-2 : tie.Need-same-length-2
 same-length-2 c = search needs
 
 returns-2 : tie.Need-returns-2
-returns-2 c = hear-unseated (c .before .before .before .before .before .before .before .before .before .before .args .t .now) _ _ (c .before .before .before .before .before .before .before .before .before .before .pre .0) (c .before .before .before .before .seat-of .ensures) _ _ _ _ _ _ _ _ (c .before .before .enum-told .given .1) (c .hear-outside .ensures)
+returns-2 c = let k = c .before .before .before .before .before .before .before .before .before in hear-unseated (k .args .t .now) (k .args .h) (k .args .f) (k .pre .0) (k .args .g) (k .pre .1 .1 .0) (k .args .m) (k .args .fresh .now) _ _ _ (c .before .before .before .before .seat-of .ensures) (c .before .before .enum-told .given .1) (c .before .without-slot .ensures) (c .hear-outside .ensures)
 
 pub hear-spec : {M : Type 1} → statement M
 hear-spec =
     tie.close
     (tie.spec
+    cast-n
     seat-of-requires
     enum-known-k
     standing-of-requires
     frame-at-requires
     finish-at-requires
     enum-told
+    without-slot-requires
     hear-outside-requires
     same-length
     returns

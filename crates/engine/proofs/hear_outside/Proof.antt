@@ -1,44 +1,52 @@
-use mathlib.Core.Path.{refl}
-use Rattle.fields.proofs.Windows.{no-peer-left}
-use Rattle.table.proofs.Laws.{sound-long}
-use Rattle.engine.proofs.Frames.{blank-steps, outside-said, outside-refused}
+use mathlib.Core.Path.{_≡_, refl}
+use lib.ListN.{length}
+use Rattle.record.proofs.Windows.{no-peer-left}
+use Rattle.engine.proofs.Headers.{count-fits, listed-count, blank-whole, ready}
+use Rattle.engine.proofs.Frames.{outside-refused, outside-said, outside-says}
 use borrow.Author.Needs.{needs}
 use Rattle.engine.proofs.hear_outside.Statement.{statement}
 use Rattle.engine.proofs.hear_outside.Tie as tie
 
-header-of-requires : tie.Need-header-of-requires
-header-of-requires c κs = sound-long _ (c .before .before .before .before .pre .0 .0 .whole)
+two : (c : tie.Start) → length (c .args .h .groups) ≡ 2
+two c = search needs
 
-slice-aggregate-frame-step : tie.Need-slice-aggregate-frame-step
-slice-aggregate-frame-step c = search needs
+cast-n : tie.Need-cast-n
+cast-n c = search needs
 
-frame-step-requires : tie.Need-frame-step-requires
-frame-step-requires c κs = blank-steps (c .before .before .before .before .before .before .args .t .now) (c .before .header-of .result) _ _ (c .before .before .before .before .before .before .pre .0 .0 .whole) (c .before .header-of .ensures) (no-peer-left 864 refl) refl (c .before .before .before .before .before .before .pre .0 .1)
+slice-aggregate-on-frame : tie.Need-slice-aggregate-on-frame
+slice-aggregate-on-frame c = search needs
 
-array-read-if1 : tie.Need-array-read-if1
-array-read-if1 c = search needs
+array-share-prefix-list : tie.Need-array-share-prefix-list
+array-share-prefix-list c = let k = c .before .before .before .before .before in count-fits (k .args .h) (k .pre .0 .header) (two k)
 
-say-requires : tie.Need-say-requires
-say-requires c κs = search needs
+slice-aggregate-on-frame-2 : tie.Need-slice-aggregate-on-frame-2
+slice-aggregate-on-frame-2 c = let k = c .before .before .before .before .before .before in listed-count (k .args .h) (k .pre .0 .header) (two k)
 
-returns : tie.Need-returns
-returns c = outside-said (c .before .before .before .before .before .before .before .before .before .before .args .t .now) (c .before .before .before .before .before .header-of .result) _ _ (c .before .before .before .before .before .before .before .before .before .before .pre .0 .0 .whole) (c .before .before .before .before .before .header-of .ensures) (no-peer-left 864 refl) _ _ _ _ _ _ (c .before .before .before .frame-step .last .0) (c .before .before .before .frame-step .ensures) _ (c .before .if1 .taken) (c .say .ensures)
+on-frame-requires : tie.Need-on-frame-requires
+on-frame-requires c κs = let k = c .before .before .before .before .before .before in ready _ (k .args .h) _ (k .args .m) (blank-whole _ (search needs) (no-peer-left 864 refl)) (k .pre .0) (two k) (k .pre .1)
 
 refuse-with-requires : tie.Need-refuse-with-requires
 refuse-with-requires c κs = search needs
 
+returns : tie.Need-returns
+returns c = let k = c .before .before .before .before .before .before .before .before .before .before in outside-refused _ _ _ _ (outside-says (k .args .h) (k .args .g) (k .args .m) _ _ _ _ (no-peer-left 864 refl) (c .before .before .before .on-frame .ensures)) (c .before .if1 .taken) (c .refuse-with .ensures)
+
+say-requires : tie.Need-say-requires
+say-requires c κs = search needs
+
 returns-2 : tie.Need-returns-2
-returns-2 c = outside-refused (c .before .before .before .before .before .before .before .before .before .before .args .t .now) (c .before .before .before .before .before .header-of .result) _ _ (c .before .before .before .before .before .before .before .before .before .before .pre .0 .0 .whole) (c .before .before .before .before .before .header-of .ensures) (no-peer-left 864 refl) _ _ _ _ _ _ (c .before .before .before .frame-step .last .0) (c .before .before .before .frame-step .ensures) _ (c .before .before .before .before .before .before .before .before .before .before .pre .1) (c .before .if1 .left) (c .refuse-with .ensures)
+returns-2 c = let k = c .before .before .before .before .before .before .before .before .before .before in outside-said _ _ _ _ (outside-says (k .args .h) (k .args .g) (k .args .m) _ _ _ _ (no-peer-left 864 refl) (c .before .before .before .on-frame .ensures)) (c .before .if1 .left) (c .say .ensures)
 
 pub hear-outside-spec : {M : Type 1} → statement M
 hear-outside-spec =
     tie.close
     (tie.spec
-    header-of-requires
-    slice-aggregate-frame-step
-    frame-step-requires
-    array-read-if1
-    say-requires
-    returns
+    cast-n
+    slice-aggregate-on-frame
+    array-share-prefix-list
+    slice-aggregate-on-frame-2
+    on-frame-requires
     refuse-with-requires
+    returns
+    say-requires
     returns-2)

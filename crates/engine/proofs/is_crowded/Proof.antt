@@ -1,5 +1,5 @@
 use borrow.Author.Needs.{needs}
-use Rattle.engine.specs.Calls.{crowded}
+use Rattle.calls.specs.Calls.{crowded}
 use Rattle.engine.proofs.is_crowded.Statement.{statement}
 use Rattle.engine.proofs.is_crowded.Tie as tie
 

@@ -1,8 +1,9 @@
 use mathlib.Core.Path.{refl}
-use Rattle.table.specs.declared.Entry.the-variants.{Unsound, Unusable, Absent}
-use Rattle.engine.specs.Calls.{killTurn}
-use Rattle.engine.proofs.Laws.{seated-old}
-use Rattle.engine.proofs.Slots.{kill-refused, kill-freed}
+use Rattle.table.specs.declared.Entry.the-variants as entry-is
+use Rattle.answers.specs.declared.Refusal.the-variants as why
+use Rattle.calls.specs.Calls.{killTurn}
+use Rattle.engine.proofs.Headers.{enters-met}
+use Rattle.engine.proofs.Starts.{kill-refused, kill-freed}
 use borrow.Author.Needs.{needs}
 use Rattle.engine.proofs.kill.Statement.{statement}
 use Rattle.engine.proofs.kill.Tie as tie
@@ -28,38 +29,38 @@ enum-told-3 c = search needs
 refuse-with-requires-3 : tie.Need-refuse-with-requires-3
 refuse-with-requires-3 c κs = search needs
 
-enum-known-k : tie.Need-enum-known-k
-enum-known-k c = search needs
+enum-known-entry : tie.Need-enum-known-entry
+enum-known-entry c = search needs
 
 free-requires : tie.Need-free-requires
-free-requires c κs = seated-old _ _ _ (c .before .before .before .before .enter .ensures) _ (c .before .before .k .given .1)
+free-requires c κs = enters-met _ _ (c .before .before .before .before .before .enter .result) (c .before .before .before .before .before .enter .ensures) .here _ (c .before .before .entry .given .1)
 
 same-length : tie.Need-same-length
 same-length c = search needs
 
 returns : tie.Need-returns
 unfolding killTurn
-returns c = kill-refused _ _ _ Unsound _ _ (c .before .before .before .enter .ensures) (c .before .enum-told .given .1) refl (c .refuse-with .ensures)
+returns c = kill-refused _ _ _ entry-is.Unsound why.Unsound _ (c .before .before .before .before .enter .ensures .entry) (c .before .enum-told .given .1) refl (c .refuse-with .ensures)
 
 same-length-2 : tie.Need-same-length-2
 same-length-2 c = search needs
 
 returns-2 : tie.Need-returns-2
 unfolding killTurn
-returns-2 c = kill-refused _ _ _ Unusable _ _ (c .before .before .before .enter .ensures) (c .before .enum-told2 .given .1) refl (c .refuse-with2 .ensures)
+returns-2 c = kill-refused _ _ _ entry-is.Unusable why.Address _ (c .before .before .before .before .enter .ensures .entry) (c .before .enum-told2 .given .1) refl (c .refuse-with2 .ensures)
 
 same-length-3 : tie.Need-same-length-3
 same-length-3 c = search needs
 
 returns-3 : tie.Need-returns-3
 unfolding killTurn
-returns-3 c = kill-refused _ _ _ Absent _ _ (c .before .before .before .enter .ensures) (c .before .enum-told3 .given .1) refl (c .refuse-with3 .ensures)
+returns-3 c = kill-refused _ _ _ entry-is.Absent why.NoRecord _ (c .before .before .before .before .enter .ensures .entry) (c .before .enum-told3 .given .1) refl (c .refuse-with3 .ensures)
 
 same-length-4 : tie.Need-same-length-4
 same-length-4 c = search needs
 
 returns-4 : tie.Need-returns-4
-returns-4 c = kill-freed _ _ _ _ _ _ (c .before .before .before .before .before .before .before .enter .ensures) (c .before .before .before .before .before .k .given .1) (c .before .before .free .ensures)
+returns-4 c = kill-freed _ _ _ _ _ _ (c .before .before .before .before .before .before .before .before .enter .ensures .entry) (c .before .before .before .before .before .entry .given .1) (c .before .before .free .ensures)
 
 pub kill-spec : {M : Type 1} → statement M
 kill-spec =
@@ -72,7 +73,7 @@ kill-spec =
     refuse-with-requires-2
     enum-told-3
     refuse-with-requires-3
-    enum-known-k
+    enum-known-entry
     free-requires
     same-length
     returns

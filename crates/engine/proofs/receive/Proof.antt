@@ -1,48 +1,60 @@
-use mathlib.Core.Path.{refl}
-use Rattle.engine.specs.Calls.{receives}
-use Rattle.turn.proofs.Laws.{turned-go, turned-refused}
-use Rattle.engine.proofs.Laws.{frame-seated}
+use Rattle.engine.proofs.Headers.{enters-met, met-listing}
+use Rattle.engine.proofs.Frames.{heard-short, given-brought, receive-refused, receive-goes, receive-went}
 use borrow.Author.Needs.{needs}
 use Rattle.engine.proofs.receive.Statement.{statement}
 use Rattle.engine.proofs.receive.Tie as tie
 
-frame-turn-requires : tie.Need-frame-turn-requires
-frame-turn-requires c κs = search needs
+enter-requires : tie.Need-enter-requires
+enter-requires c κs = search needs
 
-enum-known-c : tie.Need-enum-known-c
-enum-known-c c = search needs
+frame-turn-requires : tie.Need-frame-turn-requires
+frame-turn-requires c κs = met-listing _ _ _ (enters-met _ _ (c .before .enter .result) (c .before .enter .ensures))
+
+enum-known-turn : tie.Need-enum-known-turn
+enum-known-turn c = search needs
 
 refuse-with-requires : tie.Need-refuse-with-requires
 refuse-with-requires c κs = search needs
 
-enum-known-f : tie.Need-enum-known-f
-enum-known-f c = search needs
+enum-known-turn-2 : tie.Need-enum-known-turn-2
+enum-known-turn-2 c = search needs
+
+heard-requires : tie.Need-heard-requires
+heard-requires c κs = search needs
+
+token-of-requires : tie.Need-token-of-requires
+token-of-requires c κs = receive-goes _ _ _ _ _ _ (c .before .before .before .before .before .before .before .enter .result) (c .before .before .before .before .before .before .before .enter .ensures) (c .before .before .before .before .before .frame-turn .result) (c .before .before .before .before .before .frame-turn .ensures) _ (c .before .before .turn2 .given .1) .token
+
+given-of-requires : tie.Need-given-of-requires
+given-of-requires c κs = search needs
 
 hear-requires : tie.Need-hear-requires
-hear-requires c κs = frame-seated _ _ _ _ _ _ _ _ (c .before .before .before .before .frame-turn .ensures) (c .before .before .f .given .1)
+hear-requires c κs = let G = receive-goes _ _ _ _ _ _ (c .before .before .before .before .before .before .before .before .before .before .enter .result) (c .before .before .before .before .before .before .before .before .before .before .enter .ensures) (c .before .before .before .before .before .before .before .before .frame-turn .result) (c .before .before .before .before .before .before .before .before .frame-turn .ensures) _ (c .before .before .before .before .before .turn2 .given .1) in (G .held, (G .stock, (given-brought _ _ _ _ _ _ (c .before .given-of .ensures), heard-short _ _ _ (c .before .before .before .heard .ensures) (c .before .before .before .before .before .before .before .before .frame-turn .ensures .short))))
 
 same-length : tie.Need-same-length
 same-length c = search needs
 
 returns : tie.Need-returns
-unfolding receives
-returns c = turned-refused _ _ _ _ _ (c .before .before .before .before .frame-turn .ensures) _ _ (c .before .before .c .given .1) (c .refuse-with .ensures)
+returns c = receive-refused _ _ (c .before .before .before .before .before .before .before .before .before .before .before .before .before .args .time) _ _ _ _ (c .before .before .before .before .before .before .before .enter .result) (c .before .before .before .before .before .before .before .enter .ensures) (c .before .before .before .before .before .frame-turn .result) (c .before .before .before .before .before .frame-turn .ensures) _ _ (c .before .before .turn .given .1) (c .refuse-with .ensures)
 
 same-length-2 : tie.Need-same-length-2
 same-length-2 c = search needs
 
 returns-2 : tie.Need-returns-2
-unfolding receives
-returns-2 c = turned-go _ _ _ _ _ (c .before .before .before .before .before .before .before .frame-turn .ensures) _ _ _ _ (c .before .before .before .before .before .f .given .1) refl (c .before .before .hear .ensures)
+returns-2 c = receive-went _ _ (c .before .before .before .before .before .before .before .before .before .before .before .before .before .before .before .before .before .before .before .args .time) _ _ _ _ (c .before .before .before .before .before .before .before .before .before .before .before .before .before .enter .result) (c .before .before .before .before .before .before .before .before .before .before .before .before .before .enter .ensures) (c .before .before .before .before .before .before .before .before .before .before .before .frame-turn .result) (c .before .before .before .before .before .before .before .before .before .before .before .frame-turn .ensures) _ _ _ _ _ _ (c .before .before .before .before .before .before .before .before .turn2 .given .1) (c .before .before .before .before .before .before .heard .ensures) (c .before .before .before .before .before .token-of .ensures) (c .before .before .before .before .given-of .ensures) (c .before .before .hear .ensures)
 
 pub receive-spec : {M : Type 1} → statement M
 receive-spec =
     tie.close
     (tie.spec
+    enter-requires
     frame-turn-requires
-    enum-known-c
+    enum-known-turn
     refuse-with-requires
-    enum-known-f
+    enum-known-turn-2
+    heard-requires
+    token-of-requires
+    given-of-requires
     hear-requires
     same-length
     returns

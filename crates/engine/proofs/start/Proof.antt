@@ -1,24 +1,32 @@
-use mathlib.Core.Path.{sym, _∙_}
 use native.Mathlib.Omega.{arith}
-use Rattle.engine.proofs.Slots.{slot-fits, slot-changed, seat-slot, started, start-full}
+use mathlib.Core.Path.{sym, _∙_}
+use Rattle.engine.proofs.Headers.{held-sized, held-at, held-ready}
+use Rattle.engine.proofs.Windows.{slot-changed}
+use Rattle.engine.proofs.Starts.{started, start-full}
 use borrow.Author.Needs.{needs}
 use Rattle.engine.proofs.start.Statement.{statement}
 use Rattle.engine.proofs.start.Tie as tie
 
+cast-n : tie.Need-cast-n
+cast-n c = search needs
+
 seat-of-requires : tie.Need-seat-of-requires
-seat-of-requires c κs = search needs
+seat-of-requires c κs = let k = c .before .before .before .before in held-sized _ (k .args .h) _ (k .pre .0)
 
 enum-known-k : tie.Need-enum-known-k
 enum-known-k c = search needs
 
 standing-of-requires : tie.Need-standing-of-requires
-standing-of-requires c κs = let k = c .before .before .before .before .before .before .before .before in slot-fits (k .args .t .now) _ (seat-slot (k .args .t .now) _ _ (k .pre .0) (sym (c .before .before .before .before .seat-of .ensures) ∙ c .before .before .k .given .1))
+standing-of-requires c κs = let k = c .before .before .before .before .before .before .before .before .before in held-ready _ (k .args .h) _ (held-at _ (k .args .h) _ _ (k .pre .0) (sym (c .before .before .before .before .seat-of .ensures) ∙ c .before .before .k .given .1)) .fits
+
+given-of-requires : tie.Need-given-of-requires
+given-of-requires c κs = search needs
 
 start-at-requires : tie.Need-start-at-requires
-start-at-requires c κs = let k = c .before .before .before .before .before .before .before .before .before .before in let s = seat-slot (k .args .t .now) _ _ (k .pre .0) (sym (c .before .before .before .before .before .before .seat-of .ensures) ∙ c .before .before .before .before .k .given .1) in (s, (slot-fits (k .args .t .now) _ s, k .pre .1))
+start-at-requires c κs = let k = c .before .before .before .before .before .before .before .before .before .before .before .before in (held-at _ (k .args .h) _ _ (k .pre .0) (sym (c .before .before .before .before .before .before .before .seat-of .ensures) ∙ c .before .before .before .before .before .k .given .1), k .pre .1)
 
 finish-at-requires : tie.Need-finish-at-requires
-finish-at-requires c κs = let k = c .before .before .before .before .before .before .before .before .before .before .before .before .before .before in slot-changed (k .args .t .now) _ (seat-slot (k .args .t .now) _ _ (k .pre .0) (sym (c .before .before .before .before .before .before .before .before .before .before .seat-of .ensures) ∙ c .before .before .before .before .before .before .before .before .k .given .1)) _ _ _ _ (search needs) (c .before .before .before .start-at .ensures) (c .before .before .before .before .before .standing-of .ensures)
+finish-at-requires c κs = let k = c .before .before .before .before .before .before .before .before .before .before .before .before .before .before .before .before in slot-changed _ (k .args .h) _ (held-at _ (k .args .h) _ _ (k .pre .0) (sym (c .before .before .before .before .before .before .before .before .before .before .before .seat-of .ensures) ∙ c .before .before .before .before .before .before .before .before .before .k .given .1)) _ _ _ _ (search needs) (c .before .before .before .start-at .ensures) (c .before .before .before .before .before .before .standing-of .ensures)
 
 enum-told : tie.Need-enum-told
 enum-told c = search needs
@@ -30,21 +38,23 @@ same-length : tie.Need-same-length
 same-length c = search needs
 
 returns : tie.Need-returns
-returns c = let k = c .before .before .before .before .before .before .before .before .before .before .before .before .before .before .before .before .before in let e = sym (c .before .before .before .before .before .before .before .before .before .before .before .before .before .seat-of .ensures) ∙ c .before .before .before .before .before .before .before .before .before .before .before .k .given .1 in started (k .args .t .now) (k .args .f) _ (k .pre .0) e _ _ (k .args .address) (k .args .fresh .now) (k .args .time) _ _ (λ i. omega (arith, c .before .before .before .before .before .before .before .before .before .before .before .before .before .before .before .before .slice-known .given i)) (c .before .before .before .before .before .before .start-at .ensures) (c .before .before .finish-at .ensures)
+returns c = let k = c .before .before .before .before .before .before .before .before .before .before .before .before .before .before .before .before .before .before .before in started (k .args .t .now) (k .args .h) (k .args .f) (k .pre .0) (k .args .address) (k .args .time) (k .args .fresh .now) _ _ _ _ _ _ _ (λ i. omega (arith, c .before .before .before .before .before .before .before .before .before .before .before .before .before .before .before .before .before .before .slice-known .given i)) (c .before .before .before .before .before .before .before .before .before .before .before .before .before .before .seat-of .ensures) (c .before .before .before .before .before .before .before .before .before .before .before .before .k .given .1) (c .before .before .before .before .before .before .before .before .given-of .ensures) (c .before .before .before .before .before .before .start-at .ensures) (c .before .before .finish-at .ensures)
 
 same-length-2 : tie.Need-same-length-2
 same-length-2 c = search needs
 
 returns-2 : tie.Need-returns-2
-returns-2 c = let k = c .before .before .before .before .before .before .before in start-full (k .args .t .now) (k .args .address) (k .args .f) (k .args .time) (k .args .fresh .now) _ _ (c .before .before .before .seat-of .ensures) (c .before .enum-told .given .1) (c .refuse-with .ensures)
+returns-2 c = let k = c .before .before .before .before .before .before .before .before in start-full (k .args .t .now) (k .args .h) (k .args .f) (k .pre .0) (k .args .address) (k .args .time) (k .args .fresh .now) _ _ (c .before .before .before .seat-of .ensures) (c .before .enum-told .given .1) (c .refuse-with .ensures)
 
 pub start-spec : {M : Type 1} → statement M
 start-spec =
     tie.close
     (tie.spec
+    cast-n
     seat-of-requires
     enum-known-k
     standing-of-requires
+    given-of-requires
     start-at-requires
     finish-at-requires
     enum-told

@@ -1,22 +1,29 @@
-use Rattle.engine.proofs.Slots.{start-does}
+use mathlib.Core.Path.{_≡_}
+use lib.ListN.{length}
+use native.Mathlib.Omega.{arith}
+use Rattle.record.specs.Layout.{groupsOf}
+use Rattle.rules.specs.Book.{onStart}
+use Rattle.rules.specs.Given.{terms, call}
+use Rattle.engine.proofs.Headers.{held-header, held-ready, count-fits, listed-count, window-whole, stocked}
+use Rattle.engine.proofs.Windows.{at-step}
 use borrow.Author.Needs.{needs}
 use Rattle.engine.proofs.start_at.Statement.{statement}
 use Rattle.engine.proofs.start_at.Tie as tie
 
-header-of-requires : tie.Need-header-of-requires
-header-of-requires c κs = search needs
+two : (c : tie.Start) → length (c .args .h .groups) ≡ 2
+two c = search needs
 
-fresh-at-requires : tie.Need-fresh-at-requires
-fresh-at-requires c κs = search needs
+cast-n : tie.Need-cast-n
+cast-n c = search needs
 
 mul-a : tie.Need-mul-a
-mul-a c = search needs
+mul-a c = let k = c .before .before .before .before in omega (arith, held-ready _ (k .args .h) _ (k .pre .0) .fits)
 
 add-a : tie.Need-add-a
-add-a c = search needs
+add-a c = let k = c .before .before .before .before in omega (arith, held-ready _ (k .args .h) _ (k .pre .0) .fits)
 
 add-e : tie.Need-add-e
-add-e c = search needs
+add-e c = let k = c .before .before .before .before in omega (arith, held-ready _ (k .args .h) _ (k .pre .0) .fits)
 
 sub-on-start : tie.Need-sub-on-start
 sub-on-start c = search needs
@@ -25,33 +32,36 @@ part-on-start-start : tie.Need-part-on-start-start
 part-on-start-start c = search needs
 
 part-on-start-end : tie.Need-part-on-start-end
-part-on-start-end c = search needs
+part-on-start-end c = let k = c .before .before .before .before in omega (arith, held-ready _ (k .args .h) _ (k .pre .0) .fits)
 
-array-read-on-start : tie.Need-array-read-on-start
-array-read-on-start c = search needs
+array-share-prefix-list : tie.Need-array-share-prefix-list
+array-share-prefix-list c = let k = c .before .before .before .before .before in count-fits (k .args .h) (held-header _ _ _ (k .pre .0)) (two k)
+
+slice-aggregate-on-start : tie.Need-slice-aggregate-on-start
+slice-aggregate-on-start c = let k = c .before .before .before .before .before .before in listed-count (k .args .h) (held-header _ _ _ (k .pre .0)) (two k)
 
 on-start-requires : tie.Need-on-start-requires
-on-start-requires c κs = search needs
+on-start-requires c κs = let k = c .before .before .before .before .before .before in (window-whole _ (k .args .h) _ (k .pre .0) (λ i. omega (arith, c .before .before .before .before .before .slice-known .given i)), stocked (k .args .h) (k .pre .1 .header) (two k) _ (k .pre .1 .each))
 
 same-length : tie.Need-same-length
 same-length c = search needs
 
 returns : tie.Need-returns
-returns c = let k = c .before .before .before .before .before .before .before .before .before .before in let y = c .before .before .on-start in start-does (k .args .t .now) (k .args .k) (k .pre .0) (c .before .before .before .before .before .before .header-of .result) _ (k .args .address) _ (y .last .0) (k .args .time) _ (c .before .before .before .before .before .before .header-of .ensures) (c .before .before .before .before .fresh-at .ensures) (search needs) (y .ensures)
+returns c = let k = c .before .before .before .before .before .before .before .before .before in at-step (k .args .t .now) (k .args .h) (k .args .k) (k .pre .0) (onStart (terms (k .args .g) (groupsOf (k .args .h))) (call (k .args .g) (k .args .fresh .now))) _ _ (search needs) (c .before .before .on-start .ensures)
 
 pub start-at-spec : {M : Type 1} → statement M
 start-at-spec =
     tie.close
     (tie.spec
-    header-of-requires
-    fresh-at-requires
+    cast-n
     mul-a
     add-a
     add-e
     sub-on-start
     part-on-start-start
     part-on-start-end
-    array-read-on-start
+    array-share-prefix-list
+    slice-aggregate-on-start
     on-start-requires
     same-length
     returns)

@@ -1,5 +1,8 @@
-use mathlib.Core.Path.{_∙_}
-use Rattle.engine.proofs.Slots.{slot-fits, state-there, state-none}
+use mathlib.Core.Path.{subst}
+use Rattle.octets.specs.declared.Found.{Found}
+use Rattle.engine.specs.InSlot.{Held}
+use Rattle.engine.proofs.Headers.{held-ready}
+use Rattle.engine.proofs.Starts.{state-there, state-none}
 use borrow.Author.Needs.{needs}
 use Rattle.engine.proofs.state_of.Statement.{statement}
 use Rattle.engine.proofs.state_of.Tie as tie
@@ -8,7 +11,7 @@ enum-known-f : tie.Need-enum-known-f
 enum-known-f c = search needs
 
 state-at-requires : tie.Need-state-at-requires
-state-at-requires c κs = let s = c .before .before .before .before in slot-fits (s .args .t .now) _ (record { whole = s .pre .whole; below = λ j z. s .pre .below j (c .before .f .given .1 ∙ z) })
+state-at-requires c κs = let k = c .before .before .before .before in held-ready _ (k .args .h) _ (subst (λ (f : Found). Held (k .args .t .now) (k .args .h) f) (c .before .f .given .1) (k .pre)) .fits
 
 enum-told : tie.Need-enum-told
 enum-told c = search needs

@@ -1,7 +1,7 @@
 use borrow.Author.Needs.{needs}
 use Rattle.octets.proofs.Scan.{all-none, all-more, all-broke, all-through}
 use Rattle.octets.specs.Scan.{allBelow, countBelow, firstBelow, lastBelow, bit}
-use Rattle.table.specs.Table.{decodeTable, slot, inUse, running, key, newKey}
+use Rattle.table.specs.Table.{decodeTable, slot, inUse, isOpen, key, newKey}
 use native.Mathlib.Omega.{arith}
 use Prim.Native.Nat.{ℕ, _≤_, _<_, _-_, _+_}
 use mathlib.Core.Bool.{true, false, not, _&&_}

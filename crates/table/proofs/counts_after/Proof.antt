@@ -3,36 +3,24 @@ use borrow.Author.Needs.{needs}
 use Rattle.table.proofs.counts_after.Statement.{statement}
 use Rattle.table.proofs.counts_after.Tie as tie
 
-header-of-requires : tie.Need-header-of-requires
-header-of-requires c κs = search needs
-
 is-used-requires : tie.Need-is-used-requires
 is-used-requires c κs = search needs
 
 moved-requires : tie.Need-moved-requires
-moved-requires c κs = let h = c .before in let s = h .before .before in share-used _ _ (s .args .was) (s .pre) (h .header-of .result) (h .header-of .ensures)
+moved-requires c κs = let s = c .before .before in share-used _ _ (s .args .h) (s .args .was) (s .pre)
 
-is-running-requires : tie.Need-is-running-requires
-is-running-requires c κs = search needs
+is-open-requires : tie.Need-is-open-requires
+is-open-requires c κs = search needs
 
 moved-requires-2 : tie.Need-moved-requires-2
-moved-requires-2 c κs = let h = c .before .before .before in let s = h .before .before in share-open _ _ (s .args .was) (s .pre) (h .header-of .result) (h .header-of .ensures)
+moved-requires-2 c κs = let s = c .before .before .before .before in share-open _ _ (s .args .h) (s .args .was) (s .pre)
 
 returns : tie.Need-returns
 returns c =
-    let h = c .before .before .before .before in
-    let s = h .before .before in (
-      after-used _ _ (s .args .was) (s .pre) (h .header-of .result) (h .header-of .ensures) _ _ (c .before .before .before .is-used .ensures) (c .before .before .moved .ensures),
-      after-open _ _ (s .args .was) (s .pre) (h .header-of .result) (h .header-of .ensures) _ _ (c .before .is-running .ensures) (c .moved2 .ensures),
+    let s = c .before .before .before .before .before in (
+      after-used _ _ (s .args .h) (s .args .was) (s .pre) _ _ (c .before .before .before .is-used .ensures) (c .before .before .moved .ensures),
+      after-open _ _ (s .args .h) (s .args .was) (s .pre) _ _ (c .before .is-open .ensures) (c .moved2 .ensures),
     )
 
 pub counts-after-spec : {M : Type 1} → statement M
-counts-after-spec =
-    tie.close
-    (tie.spec
-    header-of-requires
-    is-used-requires
-    moved-requires
-    is-running-requires
-    moved-requires-2
-    returns)
+counts-after-spec = tie.close (tie.spec is-used-requires moved-requires is-open-requires moved-requires-2 returns)

@@ -3,14 +3,14 @@ use Prim.Native.Nat.{ℕ, _≤_, _<_, _-_, _+_}
 use mathlib.Core.Path.{_≡_, sym}
 use Rattle.octets.specs.Scan.{countBelow}
 use Rattle.octets.proofs.Scan.{count-none, count-step, count-fits, count-through, count-le}
-use Rattle.table.specs.Table.{decodeTable, slot, inUse, running}
+use Rattle.table.specs.Table.{decodeTable, slot, inUse, isOpen}
 use borrow.Author.Needs.{needs}
 use Rattle.table.proofs.counts_below.Statement.{statement}
 use Rattle.table.proofs.counts_below.Tie as tie
 
 abbrev Inv-loop : tie.InvT-loop
 Inv-loop t n used₀ opened₀ i₀ used opened i =
-    (i ≤ n) × ((used ≡ countBelow (λ k. inUse (slot (decodeTable t) k)) i) × (opened ≡ countBelow (λ k. running (slot (decodeTable t) k)) i))
+    (i ≤ n) × ((used ≡ countBelow (λ k. inUse (slot (decodeTable t) k)) i) × (opened ≡ countBelow (λ k. isOpen (slot (decodeTable t) k)) i))
 
 abbrev μ-loop : tie.MeasureT-loop
 μ-loop t n used₀ opened₀ i₀ used opened i = n - i
@@ -30,8 +30,8 @@ add-used c =
     let s = c .before .before .before .before .before in
     omega (arith, count-fits (λ k. inUse (slot (decodeTable (s .args .t .now)) k)) (l .i) (l .used) (c .one-if .result) (c .before .is-used .result) (l .inv .1 .0) (c .one-if .ensures))
 
-is-running-requires : tie.Need-is-running-requires Inv-loop μ-loop
-is-running-requires c κs = search needs
+is-open-requires : tie.Need-is-open-requires Inv-loop μ-loop
+is-open-requires c κs = search needs
 
 one-if-requires-2 : tie.Need-one-if-requires-2 Inv-loop μ-loop
 one-if-requires-2 c κs = search needs
@@ -40,7 +40,7 @@ add-opened : tie.Need-add-opened Inv-loop μ-loop
 add-opened c =
     let l = c .before .before .before .before .before .loop in
     let s = c .before .before .before .before .before .before .before in
-    omega (arith, count-fits (λ k. running (slot (decodeTable (s .args .t .now)) k)) (l .i) (l .opened) (c .one-if2 .result) (c .before .is-running .result) (l .inv .1 .1) (c .one-if2 .ensures))
+    omega (arith, count-fits (λ k. isOpen (slot (decodeTable (s .args .t .now)) k)) (l .i) (l .opened) (c .one-if2 .result) (c .before .is-open .result) (l .inv .1 .1) (c .one-if2 .ensures))
 
 add-i : tie.Need-add-i Inv-loop μ-loop
 add-i c = search needs
@@ -54,7 +54,7 @@ loop-again c =
       search needs,
       (
         count-step _ (l .i) (l .used) (c .before .before .one-if .result) _ (l .inv .1 .0) (c .before .before .before .is-used .ensures) (c .before .before .one-if .ensures),
-        count-step _ (l .i) (l .opened) (c .one-if2 .result) _ (l .inv .1 .1) (c .before .is-running .ensures) (c .one-if2 .ensures),
+        count-step _ (l .i) (l .opened) (c .one-if2 .result) _ (l .inv .1 .1) (c .before .is-open .ensures) (c .one-if2 .ensures),
       ),
     )
 
@@ -68,7 +68,7 @@ cast-t9 : tie.Need-cast-t9 Inv-loop μ-loop
 cast-t9 c =
     let l = c .before .loop in
     let s = c .before .before .before in
-    omega (arith, count-le (λ k. running (slot (decodeTable (s .args .t .now)) k)) (l .i), l .inv .0, l .inv .1 .1, s .pre .1)
+    omega (arith, count-le (λ k. isOpen (slot (decodeTable (s .args .t .now)) k)) (l .i), l .inv .0, l .inv .1 .1, s .pre .1)
 
 returns : tie.Need-returns Inv-loop μ-loop
 returns c =
@@ -85,7 +85,7 @@ counts-below-spec =
     is-used-requires
     one-if-requires
     add-used
-    is-running-requires
+    is-open-requires
     one-if-requires-2
     add-opened
     add-i

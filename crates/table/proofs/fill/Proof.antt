@@ -1,4 +1,4 @@
-use Rattle.table.proofs.Fresh.{fill-law}
+use Rattle.table.proofs.Initial.{fill-law}
 use Rattle.record.proofs.Laws.{TwoSix, length-six}
 use borrow.Author.Needs.{needs}
 use Rattle.table.proofs.fill.Statement.{statement}

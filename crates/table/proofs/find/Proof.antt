@@ -3,9 +3,6 @@ use borrow.Author.Needs.{needs}
 use Rattle.table.proofs.find.Statement.{statement}
 use Rattle.table.proofs.find.Tie as tie
 
-slots-of-requires : tie.Need-slots-of-requires
-slots-of-requires c κs = search needs
-
 packed-requires : tie.Need-packed-requires
 packed-requires c κs = search needs
 
@@ -13,7 +10,7 @@ find-below-requires : tie.Need-find-below-requires
 find-below-requires c κs = search needs
 
 returns : tie.Need-returns
-returns c = find-law _ _ _ _ _ (c .before .before .slots-of .ensures .0) (c .before .packed .ensures) (c .find-below .ensures)
+returns c = find-law _ _ _ _ _ (c .before .before .before .pre .number) (c .before .packed .ensures) (c .find-below .ensures)
 
 pub find-spec : {M : Type 1} → statement M
-find-spec = tie.close (tie.spec slots-of-requires packed-requires find-below-requires returns)
+find-spec = tie.close (tie.spec packed-requires find-below-requires returns)

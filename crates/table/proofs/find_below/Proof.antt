@@ -4,7 +4,7 @@ use Rattle.octets.specs.Octets.{num}
 use lib.Dec.{eqb}
 use Rattle.octets.specs.declared.Found.the-variants.{At, Nothing}
 use Rattle.octets.specs.Scan.{allBelow, countBelow, firstBelow, lastBelow, bit}
-use Rattle.table.specs.Table.{decodeTable, slot, inUse, running, key, newKey}
+use Rattle.table.specs.Table.{decodeTable, slot, inUse, isOpen, key, newKey}
 use native.Mathlib.Omega.{arith}
 use Prim.Native.Nat.{ℕ, _≤_, _<_, _-_, _+_}
 use mathlib.Core.Bool.{true, false, not, _&&_}

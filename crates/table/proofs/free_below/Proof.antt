@@ -3,7 +3,7 @@ use borrow.Author.Tests.{eq-eqb, ne-eqb}
 use Rattle.octets.proofs.Scan.{last-found, last-step, last-through}
 use lib.Dec.{eqb}
 use Rattle.octets.specs.Scan.{allBelow, countBelow, firstBelow, lastBelow, bit}
-use Rattle.table.specs.Table.{decodeTable, slot, inUse, running, key, newKey}
+use Rattle.table.specs.Table.{decodeTable, slot, inUse, isOpen, key, newKey}
 use native.Mathlib.Omega.{arith}
 use Prim.Native.Nat.{ℕ, _≤_, _<_, _-_, _+_}
 use mathlib.Core.Path.{_≡_, refl, sym, ap, _∙_}

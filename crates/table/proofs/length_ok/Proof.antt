@@ -1,4 +1,4 @@
-use Rattle.table.proofs.Fresh.{length-short, length-law}
+use Rattle.table.proofs.Initial.{length-short, length-law}
 use borrow.Author.Needs.{needs}
 use Rattle.table.proofs.length_ok.Statement.{statement}
 use Rattle.table.proofs.length_ok.Tie as tie

@@ -1,4 +1,4 @@
-use Rattle.form.specs.Form.{peerOk}
+use Rattle.soundness.specs.Soundness.{peerOk}
 use mathlib.Core.Path.{_≡_, refl, sym, ap, _∙_}
 use Rattle.table.proofs.Octets.{window-law}
 use borrow.Author.Needs.{needs}

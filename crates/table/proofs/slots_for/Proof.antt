@@ -1,4 +1,4 @@
-use Rattle.table.specs.Fresh.{slotsFor}
+use Rattle.table.specs.Initial.{slotsFor}
 use borrow.Author.Needs.{needs}
 use Rattle.table.proofs.slots_for.Statement.{statement}
 use Rattle.table.proofs.slots_for.Tie as tie

@@ -6,11 +6,11 @@ use Rattle.table.proofs.standing_of.Tie as tie
 is-used-requires : tie.Need-is-used-requires
 is-used-requires c κs = search needs
 
-is-running-requires : tie.Need-is-running-requires
-is-running-requires c κs = search needs
+is-open-requires : tie.Need-is-open-requires
+is-open-requires c κs = search needs
 
 returns : tie.Need-returns
-returns c = standing-law _ _ _ _ (c .before .is-used .ensures) (c .is-running .ensures)
+returns c = standing-law _ _ _ _ (c .before .is-used .ensures) (c .is-open .ensures)
 
 pub standing-of-spec : {M : Type 1} → statement M
-standing-of-spec = tie.close (tie.spec is-used-requires is-running-requires returns)
+standing-of-spec = tie.close (tie.spec is-used-requires is-open-requires returns)

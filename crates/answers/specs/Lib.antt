@@ -1,0 +1,2 @@
+-- What the contracts of `turn` cite.
+pub mod Answers

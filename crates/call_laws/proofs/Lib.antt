@@ -1,0 +1,7 @@
+-- What holds of every call.
+pub mod Good
+pub mod Ends
+pub mod Refuses
+pub mod Sound
+pub mod Isolated
+pub mod Sends

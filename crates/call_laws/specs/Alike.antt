@@ -1,0 +1,24 @@
+-- What reaches a peer's record and answers: its own record, the settings, "Open against the threshold, free slots".
+use mathlib.Core.Path.{_≡_}
+use mathlib.Core.Bool.{true}
+use mathlib.Core.List.{List}
+use Prim.Native.Nat.{ℕ}
+use Rattle.record.specs.Layout.{groupsOf}
+use Rattle.table.specs.Table.{decodeTable, look, sound, usedCount, openCount}
+use Rattle.calls.specs.Calls.{crowded, full}
+
+-- a sound table, whose counts are true
+pub record SoundTable (t : List ℕ) : Type 0 where
+  pub sound : sound t ≡ true
+  pub used : decodeTable t .header .used ≡ usedCount (decodeTable t)
+  pub opened : decodeTable t .header .opened ≡ openCount (decodeTable t)
+
+-- two sound tables that are alike for the address a; where neither has a record for it, both records are the free one
+pub record Alike (t u a : List ℕ) : Type 0 where
+  pub sound₁ : sound t ≡ true
+  pub sound₂ : sound u ≡ true
+  pub own : decodeTable t .header .own ≡ decodeTable u .header .own
+  pub groups : groupsOf (decodeTable t .header) ≡ groupsOf (decodeTable u .header)
+  pub crowded : crowded (decodeTable t .header) ≡ crowded (decodeTable u .header)
+  pub full : full (decodeTable t) ≡ full (decodeTable u)
+  pub peer : look (decodeTable t) a ≡ look (decodeTable u) a

@@ -1,0 +1,2 @@
+-- The calls as definitions.
+pub mod Calls

@@ -1,0 +1,1 @@
+-- The contracts of `deadlines` cite the book.

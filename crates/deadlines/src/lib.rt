@@ -1,0 +1,84 @@
+// The clock, "a 32-bit count of milliseconds that wraps": deadlines by wrapping add, the due test by wrapping subtract.
+ghost use mathlib.Core.Path.{_≡_};
+ghost use Prim.Native.Nat.{_≤_};
+ghost use lib.ListN.{length};
+ghost use Rattle.groups.specs.Groups.{width};
+ghost use Rattle.record.specs.Layout.{decodePeer, recordSize};
+ghost use Rattle.rules.specs.Book.{factory, delay, deadline, due, t0Due, expired};
+use record::Settings;
+
+// The delays before t0, by Sync: the first period, doubled each time.
+const DELAYS: [u32; 7] = [
+    Settings::PERIOD,
+    2 * Settings::PERIOD,
+    4 * Settings::PERIOD,
+    8 * Settings::PERIOD,
+    16 * Settings::PERIOD,
+    32 * Settings::PERIOD,
+    64 * Settings::PERIOD,
+];
+
+// Half of the clock's range.
+const HALF: u32 = 2147483648;
+
+// A day, after which a link ends.
+const LIFETIME: u32 = 86400000;
+
+// "A deadline is due when (reading − deadline) modulo 2^32 is below 2^31."
+fn is_due(time: u32, at: u32) -> bool
+    ensures { λ r. ⌜ r ≡ due time at ⌝ }
+{
+    let gone = std::num::wrapping_sub_u32(time, at);
+    gone < HALF
+}
+
+fn delay_of(sync: u8) -> u32
+    requires { ⌜ sync ≤ 6 ⌝ }
+    ensures { λ r. ⌜ r ≡ delay factory sync ⌝ }
+{
+    DELAYS[sync as usize]
+}
+
+fn after(time: u32, wait: u32) -> u32
+    ensures { λ r. ⌜ r ≡ deadline time wait ⌝ }
+{
+    std::num::wrapping_add_u32(time, wait)
+}
+
+// The deadline that "Set t0" sets.
+pub fn t0_at(time: u32, sync: u8) -> u32
+    requires { ⌜ sync ≤ 6 ⌝ }
+    ensures { λ r. ⌜ r ≡ deadline time (delay factory sync) ⌝ }
+{
+    after(time, delay_of(sync))
+}
+
+// "t1 = now + 86,400,000".
+pub fn t1_at(time: u32) -> u32
+    ensures { λ r. ⌜ r ≡ deadline time 86400000 ⌝ }
+{
+    after(time, LIFETIME)
+}
+
+// t0 counts only with a run.
+pub fn t0_due(s: &[u8], time: u32) -> bool
+    requires { ⌜ length (now s) ≡ recordSize width ⌝ }
+    ensures { λ r. ⌜ r ≡ t0Due (decodePeer width (now (s .entry))) time ⌝ }
+{
+    let state = record::state_of(s);
+    let at = record::t0_of(s);
+    let due = is_due(time, at);
+    (state != 0) & due
+}
+
+// Whether a record has a deadline that is due.
+pub fn is_expired(s: &[u8], time: u32) -> bool
+    requires { ⌜ length (now s) ≡ recordSize width ⌝ }
+    ensures { λ r. ⌜ r ≡ expired (decodePeer width (now (s .entry))) time ⌝ }
+{
+    let early = t0_due(s, time);
+    let finished = record::finished_of(s);
+    let at = record::t1_of(s);
+    let late = is_due(time, at);
+    early | ((finished != 0) & late)
+}

@@ -1,0 +1,91 @@
+-- What a search is handed to climb a ladder: the value of each test, also where a number was read from the record by a call.
+use mathlib.Core.Path.{_≡_, refl, sym, ap, _∙_, subst}
+use mathlib.Core.Bool.{Bool, true, false, not, _&&_}
+use mathlib.Core.List.{List}
+use Prim.Native.Nat.{ℕ, _+_, _≤_, _<_}
+use native.Mathlib.Omega.{arith}
+use lib.Dec.{eqb, ltb}
+use lib.ListN.{length, take}
+use lib.Seq.{length-take-le}
+use borrow.Author.Tests.{eq-eqb, ne-eqb, lt-ltb, le-ltb, not-true, not-false}
+use Rattle.octets.specs.Octets.{part, same}
+use Rattle.octets.proofs.Laws.{part-part}
+use Rattle.groups.specs.Groups.{width, scalarLength}
+use Rattle.groups.proofs.Laws.{commit-fits, scalar-fits}
+use Rattle.record.specs.Layout.{decodePeer}
+use Rattle.record.specs.declared.Link.{Link}
+use Rattle.record.proofs.Windows.{link-peer-law}
+use Rattle.rules.specs.Book.{holds, linkedWith}
+use Rattle.rules.specs.declared.Message.{Message}
+
+-- a number against one that a call read
+pub like-read : (x y r : ℕ) → r ≡ y → x ≡ r → eqb x y ≡ true
+like-read x y r e t = eq-eqb x y (t ∙ e)
+
+pub unlike-read : (x y r : ℕ) → r ≡ y → (x ≡ r → ⊥) → eqb x y ≡ false
+unlike-read x y r e d = ne-eqb x y (λ q. d (q ∙ sym e))
+
+-- "finished link with that group and peer scalar", test by test
+module _ (l : Link) (m : Message) (finished group : ℕ) (x : Bool) where
+  pub no-link : finished ≡ l .finished → finished ≡ 0 → false ≡ linkedWith l m
+  unfolding linkedWith
+  no-link e z = rw (eq-eqb (l .finished) 0 (sym e ∙ z)) refl
+
+  pub other-link : finished ≡ l .finished → (finished ≡ 0 → ⊥) → group ≡ l .group → (group ≡ m .group → ⊥) → false ≡ linkedWith l m
+  unfolding linkedWith
+  other-link e z g d = rw (ne-eqb (l .finished) 0 (λ q. z (e ∙ q)), ne-eqb (l .group) (m .group) (λ q. d (g ∙ q))) refl
+
+  pub this-link :
+      finished ≡ l .finished → (finished ≡ 0 → ⊥) → group ≡ l .group → group ≡ m .group →
+      x ≡ same (part (m .commit) 0 (scalarLength (m .group))) (part (l .peer) 0 (scalarLength (m .group))) → x ≡ linkedWith l m
+  unfolding linkedWith
+  this-link e z g d q = rw (ne-eqb (l .finished) 0 (λ q. z (e ∙ q)), eq-eqb (l .group) (m .group) (sym g ∙ d)) q
+
+pub same-scalar-law :
+    (s heard : List ℕ) (group n : ℕ) (x : Bool) → n ≡ scalarLength group → x ≡ same (part heard 0 n) (part s 720 n) →
+    x ≡ same (part heard 0 (scalarLength group)) (part (decodePeer width s .link .peer) 0 (scalarLength group))
+same-scalar-law s heard group n x e q =
+    let h : 0 + scalarLength group ≤ width = omega (arith, scalar-fits group, commit-fits group) in
+    rw (link-peer-law s, part-part s 720 width 0 (scalarLength group) h, ← e) q
+
+-- "wrong token": not asked unless Open is at or above the threshold
+pub unasked : (crowded wrong : Bool) → not crowded ≡ true → false ≡ (crowded && wrong)
+unasked crowded wrong e = rw (not-true crowded e) refl
+
+pub asked : (crowded wrong : Bool) → not crowded ≡ false → wrong ≡ (crowded && wrong)
+asked crowded wrong e = rw (not-false crowded e) refl
+
+pub wrong-law : (crowded like : Bool) (token expected : List ℕ) → not crowded ≡ false → like ≡ same token expected → not like ≡ (crowded && not (same token expected))
+wrong-law crowded like token expected e q = ap not q ∙ asked crowded (not (same token expected)) e
+
+pub prefix-count : (n : ℕ) (token : List ℕ) → n ≤ 256 → length token ≡ 256 → n ≡ length (take n token)
+prefix-count n token h e = sym (length-take-le n token (omega arith))
+
+-- a number that a call read, against a constant
+pub read-is : (x r k : ℕ) → r ≡ x → r ≡ k → eqb x k ≡ true
+read-is x r k e t = eq-eqb x k (sym e ∙ t)
+
+pub read-isnt : (x r k : ℕ) → r ≡ x → (r ≡ k → ⊥) → eqb x k ≡ false
+read-isnt x r k e d = ne-eqb x k (λ q. d (e ∙ q))
+
+pub read-above : (x r k : ℕ) → r ≡ x → k < r → ltb k x ≡ true
+read-above x r k e h = lt-ltb k x (subst (λ (y : ℕ). k < y) e h)
+
+pub read-within : (x r k : ℕ) → r ≡ x → r ≤ k → ltb k x ≡ false
+read-within x r k e h = le-ltb k x (subst (λ (y : ℕ). y ≤ k) e h)
+
+-- a number above one that a call read, or not
+pub over-read : (x y r : ℕ) → r ≡ y → r < x → ltb y x ≡ true
+over-read x y r e h = lt-ltb y x (subst (λ (z : ℕ). z < x) e h)
+
+pub under-read : (x y r : ℕ) → r ≡ y → x ≤ r → ltb y x ≡ false
+under-read x y r e h = le-ltb y x (subst (λ (z : ℕ). x ≤ z) e h)
+
+-- the Bool is the negation of what a call answered
+pub denied-true : (b r : Bool) → r ≡ b → not r ≡ true → holds b ≡ false
+unfolding holds
+denied-true b r e t = sym e ∙ not-true r t
+
+pub denied-false : (b r : Bool) → r ≡ b → not r ≡ false → holds b ≡ true
+unfolding holds
+denied-false b r e t = sym e ∙ not-false r t

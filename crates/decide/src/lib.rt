@@ -1,0 +1,295 @@
+// The ladders of the rule book: what a frame calls for. Only reads, and nothing is compared before it is asked.
+ghost use mathlib.Core.Path.{_≡_};
+ghost use mathlib.Core.Bool.{_&&_, not};
+ghost use Prim.Native.Nat.{_*_, _≤_};
+ghost use lib.ListN.{length, take};
+ghost use Rattle.octets.specs.Octets.{part, same};
+ghost use Rattle.groups.specs.Groups.{width, scalarLength, freshFor};
+ghost use Rattle.record.specs.Layout.{decodePeer, recordSize};
+ghost use Rattle.rules.specs.Book.{linkedWith, commitIdle, commitCommitted, commitConfirmed, confirmCommitted, confirmConfirmed, confirmLinked, commitAct, confirmAct, frameAct};
+ghost use Rattle.rules.specs.Given.{terms, call, Stocked, Ready};
+use groups::COMMIT;
+use record::LINK;
+use record::LINK_PEER;
+use record::RUN;
+use record::RUN_OWN;
+use record::Settings;
+use rules::Act;
+use rules::Given;
+use rules::Message;
+
+// The scalar of a group is that of the link's peer.
+fn same_scalar(s: &[u8], heard: [u8; COMMIT], group: u16) -> bool
+    requires { ⌜ length (now s) ≡ recordSize width ⌝ }
+    ensures { λ x. ⌜ x ≡ same (part heard 0 (scalarLength group)) (part (decodePeer width (now (s .entry)) .link .peer) 0 (scalarLength group)) ⌝ }
+{
+    let n = groups::scalar_length(group);
+    octets::same_part(&heard[..], 0, s, LINK + LINK_PEER, n)
+}
+
+// "finished link with that group and peer scalar"
+fn is_linked(s: &[u8], m: Message) -> bool
+    requires { ⌜ length (now s) ≡ recordSize width ⌝ }
+    ensures { λ x. ⌜ x ≡ linkedWith (decodePeer width (now (s .entry)) .link) m ⌝ }
+{
+    let finished = record::finished_of(s);
+    if finished == 0 {
+        return false;
+    }
+    let our_group = record::link_group_of(s);
+    let group = m.group;
+    if our_group != group {
+        return false;
+    }
+    let heard = m.commit;
+    same_scalar(s, heard, group)
+}
+
+// "wrong token", Open being at or above the threshold
+fn is_wrong(crowded: bool, token: [u8; 256], toklen: u16, expected: [u8; 32]) -> bool
+    requires { ⌜ toklen ≤ 256 ⌝ }
+    ensures { λ x. ⌜ x ≡ (crowded && not (same (take toklen token) expected)) ⌝ }
+{
+    if !crowded {
+        return false;
+    }
+    let n = toklen as usize;
+    let same = octets::is_same(&token[..n], &expected[..]);
+    !same
+}
+
+// "equal to our stock's"
+fn equals_fresh(m: Message, groups: &[u16], fresh: &[u8]) -> bool
+    requires { ⌜ Stocked (now groups) (now fresh) ⌝ }
+    ensures { λ x. ⌜ x ≡ same (m .commit) (freshFor (now (groups .entry)) (now (fresh .entry)) (m .group)) ⌝ }
+{
+    let heard = m.commit;
+    let own = groups::fresh_for(groups, fresh, m.group);
+    octets::is_same(&heard[..], &own[..])
+}
+
+// "equal to our commit"
+fn equals_own(s: &[u8], m: Message) -> bool
+    requires { ⌜ length (now s) ≡ recordSize width ⌝ }
+    ensures { λ x. ⌜ x ≡ same (m .commit) (decodePeer width (now (s .entry)) .run .own) ⌝ }
+{
+    let heard = m.commit;
+    let a = RUN + RUN_OWN;
+    let e = a + COMMIT;
+    octets::is_same(&heard[..], &s[a..e])
+}
+
+// "Commit, no run, in this order"
+pub fn commit_idle(s: &[u8], g: Given, m: Message, groups: &[u16], fresh: &[u8]) -> Act
+    requires { ⌜ Ready (now s) (now groups) (now fresh) m ⌝ }
+    ensures { λ r. ⌜ r ≡ commitIdle (terms g (now (groups .entry))) (call g (now (fresh .entry))) (decodePeer width (now (s .entry))) m ⌝ }
+{
+    let status = m.status;
+    let listed = m.listed;
+    let toklen = m.toklen;
+    let crowded = g.crowded;
+    let full = g.full;
+    let verified = g.verified;
+    if status != 0 {
+        return Act::Drop;
+    }
+    if !listed {
+        return Act::RefuseGroup;
+    }
+    if is_linked(s, m) {
+        return Act::Drop;
+    }
+    let lacks = crowded & (toklen == 0);
+    if lacks {
+        return Act::AskToken;
+    }
+    let token = m.token;
+    let expected = g.expected;
+    if is_wrong(crowded, token, toklen, expected) {
+        return Act::Drop;
+    }
+    if equals_fresh(m, groups, fresh) {
+        return Act::Drop;
+    }
+    if !verified {
+        return Act::Drop;
+    }
+    if full {
+        return Act::NoSlot;
+    }
+    Act::AnswerCommit
+}
+
+// "Commit in Committed"
+pub fn commit_committed(s: &[u8], g: Given, m: Message, groups: &[u16], fresh: &[u8]) -> Act
+    requires { ⌜ Ready (now s) (now groups) (now fresh) m ⌝ }
+    ensures { λ r. ⌜ r ≡ commitCommitted (terms g (now (groups .entry))) (call g (now (fresh .entry))) (decodePeer width (now (s .entry))) m ⌝ }
+{
+    let status = m.status;
+    let group = m.group;
+    let listed = m.listed;
+    let verified = g.verified;
+    let own = g.own;
+    let address = g.address;
+    let our_group = record::group_of(s);
+    if status == 76 {
+        if group == our_group {
+            return Act::ReplyToken;
+        }
+        return Act::Drop;
+    }
+    if status == 77 {
+        if group == our_group {
+            return Act::SwitchGroup;
+        }
+        return Act::Drop;
+    }
+    if status != 0 {
+        return Act::Drop;
+    }
+    if !listed {
+        return Act::RepeatRefusal;
+    }
+    if group != our_group {
+        if octets::is_higher(own, address) {
+            return Act::RepeatCommit;
+        }
+        if !verified {
+            return Act::Drop;
+        }
+        if equals_fresh(m, groups, fresh) {
+            return Act::Drop;
+        }
+        return Act::AnswerCommit;
+    }
+    if equals_own(s, m) {
+        return Act::Drop;
+    }
+    if !verified {
+        return Act::Drop;
+    }
+    Act::ConfirmCommit
+}
+
+// "Confirmed. Commit"
+pub fn commit_confirmed(s: &[u8], g: Given, m: Message, groups: &[u16], fresh: &[u8]) -> Act
+    requires { ⌜ Ready (now s) (now groups) (now fresh) m ⌝ }
+    ensures { λ r. ⌜ r ≡ commitConfirmed (terms g (now (groups .entry))) (decodePeer width (now (s .entry))) m ⌝ }
+{
+    let status = m.status;
+    let group = m.group;
+    if status != 0 {
+        return Act::Drop;
+    }
+    let sync = record::sync_of(s);
+    if sync > Settings::SYNC_LIMIT {
+        return Act::GiveUp;
+    }
+    let our_group = record::group_of(s);
+    if group != our_group {
+        return Act::Drop;
+    }
+    Act::ResendBoth
+}
+
+// "Confirm in Committed"
+pub fn confirm_committed(s: &[u8], g: Given, m: Message, groups: &[u16], fresh: &[u8]) -> Act
+    requires { ⌜ Ready (now s) (now groups) (now fresh) m ⌝ }
+    ensures { λ r. ⌜ r ≡ confirmCommitted m ⌝ }
+{
+    let status = m.status;
+    if status != 0 {
+        return Act::Drop;
+    }
+    Act::RepeatCommit
+}
+
+// "Confirmed. Confirm"
+pub fn confirm_confirmed(s: &[u8], g: Given, m: Message, groups: &[u16], fresh: &[u8]) -> Act
+    requires { ⌜ Ready (now s) (now groups) (now fresh) m ⌝ }
+    ensures { λ r. ⌜ r ≡ confirmConfirmed (call g (now (fresh .entry))) m ⌝ }
+{
+    let status = m.status;
+    let verified = g.verified;
+    if status != 0 {
+        return Act::Drop;
+    }
+    if !verified {
+        return Act::Drop;
+    }
+    Act::Accept
+}
+
+// "Link, no run, Confirm"
+pub fn confirm_linked(s: &[u8], g: Given, m: Message, groups: &[u16], fresh: &[u8]) -> Act
+    requires { ⌜ Ready (now s) (now groups) (now fresh) m ⌝ }
+    ensures { λ r. ⌜ r ≡ confirmLinked (terms g (now (groups .entry))) (call g (now (fresh .entry))) (decodePeer width (now (s .entry))) m ⌝ }
+{
+    let status = m.status;
+    let counter = m.counter;
+    let verified = g.verified;
+    if status != 0 {
+        return Act::Drop;
+    }
+    let sync = record::link_sync_of(s);
+    if sync > Settings::SYNC_LIMIT {
+        return Act::EndLink;
+    }
+    let rc = record::rc_of(s);
+    if counter <= rc {
+        return Act::Drop;
+    }
+    if !verified {
+        return Act::Drop;
+    }
+    if counter == 65535 {
+        return Act::HearLast;
+    }
+    Act::HearAgain
+}
+
+// A Commit: "a run takes all frames while it lasts"
+pub fn commit(s: &[u8], g: Given, m: Message, groups: &[u16], fresh: &[u8]) -> Act
+    requires { ⌜ Ready (now s) (now groups) (now fresh) m ⌝ }
+    ensures { λ r. ⌜ r ≡ commitAct (terms g (now (groups .entry))) (call g (now (fresh .entry))) (decodePeer width (now (s .entry))) m ⌝ }
+{
+    let state = record::state_of(s);
+    if state == 1 {
+        return commit_committed(s, g, m, groups, fresh);
+    }
+    if state == 2 {
+        return commit_confirmed(s, g, m, groups, fresh);
+    }
+    commit_idle(s, g, m, groups, fresh)
+}
+
+// A Confirm: "a run takes all frames while it lasts. Confirm with neither: drop."
+pub fn confirm(s: &[u8], g: Given, m: Message, groups: &[u16], fresh: &[u8]) -> Act
+    requires { ⌜ Ready (now s) (now groups) (now fresh) m ⌝ }
+    ensures { λ r. ⌜ r ≡ confirmAct (terms g (now (groups .entry))) (call g (now (fresh .entry))) (decodePeer width (now (s .entry))) m ⌝ }
+{
+    let state = record::state_of(s);
+    if state == 1 {
+        return confirm_committed(s, g, m, groups, fresh);
+    }
+    if state == 2 {
+        return confirm_confirmed(s, g, m, groups, fresh);
+    }
+    let finished = record::finished_of(s);
+    if finished != 0 {
+        return confirm_linked(s, g, m, groups, fresh);
+    }
+    Act::Drop
+}
+
+// What a frame calls for
+pub fn frame(s: &[u8], g: Given, m: Message, groups: &[u16], fresh: &[u8]) -> Act
+    requires { ⌜ Ready (now s) (now groups) (now fresh) m ⌝ }
+    ensures { λ r. ⌜ r ≡ frameAct (terms g (now (groups .entry))) (call g (now (fresh .entry))) (decodePeer width (now (s .entry))) m ⌝ }
+{
+    let sequence = m.sequence;
+    if sequence == 1 {
+        return commit(s, g, m, groups, fresh);
+    }
+    confirm(s, g, m, groups, fresh)
+}

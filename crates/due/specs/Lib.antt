@@ -1,2 +1,0 @@
--- What the contracts of `due` cite.
-pub mod Due

@@ -1,0 +1,44 @@
+use mathlib.Core.Path.{ap, _∙_}
+use Rattle.record.specs.declared.Peer.{Peer}
+use Rattle.table.proofs.Octets.{window-law}
+use Rattle.rules.specs.Book.{expired}
+use borrow.Author.Needs.{needs}
+use Rattle.engine.proofs.is_expired_at.Statement.{statement}
+use Rattle.engine.proofs.is_expired_at.Tie as tie
+
+mul-a : tie.Need-mul-a
+mul-a c = search needs
+
+add-a : tie.Need-add-a
+add-a c = search needs
+
+add-e : tie.Need-add-e
+add-e c = search needs
+
+sub-is-expired : tie.Need-sub-is-expired
+sub-is-expired c = search needs
+
+part-is-expired-start : tie.Need-part-is-expired-start
+part-is-expired-start c = search needs
+
+part-is-expired-end : tie.Need-part-is-expired-end
+part-is-expired-end c = search needs
+
+is-expired-requires : tie.Need-is-expired-requires
+is-expired-requires c κs = search needs
+
+returns : tie.Need-returns
+returns c = c .is-expired .ensures ∙ ap (λ (p : Peer). expired p (c .before .before .before .args .time)) (window-law (c .before .before .before .args .t .now) (c .before .before .before .args .k) (c .before .before .before .pre))
+
+pub is-expired-at-spec : {M : Type 1} → statement M
+is-expired-at-spec =
+    tie.close
+    (tie.spec
+    mul-a
+    add-a
+    add-e
+    sub-is-expired
+    part-is-expired-start
+    part-is-expired-end
+    is-expired-requires
+    returns)

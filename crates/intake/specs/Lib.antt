@@ -1,2 +1,0 @@
--- What the contracts of `intake` cite.
-pub mod Intake

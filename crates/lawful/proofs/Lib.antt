@@ -1,8 +1,0 @@
--- What holds of every call.
-pub mod Good
-pub mod Ends
-pub mod Refuses
-pub mod Sound
-pub mod Isolated
-pub mod Tells
-pub mod Sends

@@ -1,0 +1,54 @@
+-- Laws of the view of a frame and of its message.
+use mathlib.Core.Path.{_≡_, refl, sym, ap, _∙_, subst}
+use mathlib.Core.Bool.{Bool, true, false}
+use mathlib.Core.List.{List}
+use Prim.Native.Nat.{ℕ, _≤_}
+use native.Mathlib.Omega.{arith}
+use native.Mathlib.Nat.{zero-add}
+use lib.Dec.{lit≤}
+use lib.ListN.{length, replicate, length-take}
+use Rattle.octets.specs.Octets.{part, put}
+use Rattle.octets.specs.Scan.{if_then_else_}
+use Rattle.groups.specs.Groups.{width}
+use Rattle.groups.proofs.Laws.{drop-zeros}
+use Rattle.frame.specs.Frame.{readBody, tokenOf, commitOf}
+use Rattle.frame.specs.declared.Body.{Body}
+use Rattle.frame.specs.declared.Body.the-variants as body
+use Rattle.frame.proofs.Shapes.{commit-shape, token-request-shape}
+use Rattle.message.specs.declared.View.{View}
+use Rattle.message.specs.View.{viewOf, view, storedToken, commitIn}
+
+-- the shape that a body is of
+pub view-law : (B y : Body) (r : View) → B ≡ y → r ≡ viewOf y → r ≡ viewOf B
+view-law B y r e q = q ∙ ap viewOf (sym e)
+
+pub view-length : (B y : Body) → B ≡ y → viewOf B .toklen ≤ 256 → viewOf y .toklen ≤ 256
+view-length B y e h = subst (λ (z : Body). viewOf z .toklen ≤ 256) e h
+
+-- a token that was read is at most 256 octets
+pub read-token : (gs frame : List ℕ) (x : Body) → x ≡ readBody gs frame → viewOf x .toklen ≤ 256
+read-token gs frame (body.Commit g n) e = commit-shape gs frame g n (sym e) .token
+read-token gs frame (body.Unsupported g) e = lit≤ tt
+read-token gs frame (body.TokenRequest g n) e = token-request-shape gs frame g n (sym e) .token
+read-token gs frame (body.GroupRefusal g) e = lit≤ tt
+read-token gs frame (body.OtherCommit s) e = lit≤ tt
+read-token gs frame (body.Confirm n) e = lit≤ tt
+read-token gs frame (body.OtherConfirm s) e = lit≤ tt
+read-token gs frame body.Malformed e = lit≤ tt
+
+pub view-read : (gs frame : List ℕ) (x : Body) (r : View) → x ≡ readBody gs frame → r ≡ viewOf x → (r ≡ view gs frame) × (r .toklen ≤ 256)
+unfolding view
+view-read gs frame x r e q = (q ∙ ap viewOf e, subst (λ (v : View). v .toklen ≤ 256) (sym q) (read-token gs frame x e))
+
+pub view-short : (gs frame : List ℕ) → view gs frame .toklen ≤ 256
+unfolding view
+view-short gs frame = read-token gs frame (readBody gs frame) refl
+
+-- [0; 256] filled with a token
+pub token-law : (token r : List ℕ) → r ≡ put (replicate 256 0) 0 token → r ≡ storedToken token
+unfolding storedToken put
+token-law token r e = e ∙ rw (zero-add, drop-zeros 256 (length token)) refl
+
+pub token-short : (s r : List ℕ) (n : ℕ) → n ≤ 256 → r ≡ tokenOf s n → length r ≤ 256
+unfolding tokenOf part
+token-short s r n h e = rw (e, length-take) (omega arith)

@@ -1,0 +1,2 @@
+-- What the contracts of `message` cite.
+pub mod View

@@ -1,0 +1,88 @@
+-- The acts on a run and on a link, from what the calls of the code answer: numbers that were read from the record, frames, and octets left.
+use mathlib.Core.Path.{_≡_, refl, sym, ap, _∙_, subst}
+use mathlib.Core.List.{List}
+use Prim.Native.Nat.{ℕ, _+_, _<_, _^_}
+use native.Mathlib.Omega.{arith}
+use lib.Dec.{lit<}
+use lib.ListN.{length, take, drop}
+use borrow.Rule.Slice.PartMut.{putMid}
+use Rattle.octets.specs.Octets.{put, oct}
+use Rattle.octets.proofs.Laws.{length-oct, num-oct}
+use Rattle.groups.specs.Groups.{width}
+use Rattle.record.specs.Codec.{cut, total}
+use Rattle.record.specs.Layout.{decodeLink, decodePeer, linkOf, linkWidths, runSize, linkSize, recordSize}
+use Rattle.record.specs.declared.Peer.{Peer}
+use Rattle.record.proofs.Windows.{laid, laid-put, link-window, link-left}
+use Rattle.rules.specs.declared.Frame.{Frame}
+use Rattle.rules.specs.declared.Frames.{Frames}
+use Rattle.rules.specs.declared.Frames.the-variants.{None, One, Two}
+use Rattle.rules.specs.declared.Said.{Said}
+use Rattle.rules.specs.Parts.{counting, heardAgain, withLink}
+use Rattle.rules.specs.Book.{Timing, commitFrame, groupRefusalFrame, confirmFrame, sending, answering, retransmitting, repeatingCommit, repeatingRefusal, confirmingAgain, resendingBoth, hearingLast, hearingAgain}
+use Rattle.rules.specs.Said.{sayingFrames, Does}
+
+-- ---- "Repeat", and what is sent with it
+
+module _ (τ : Timing) (p : Peer) (time : ℕ) (x : Said) (left : List ℕ) where
+  pub repeat-commit-law : (g sc : ℕ) (f : Frame) → g ≡ p .run .group → sc ≡ p .run .sc → f ≡ commitFrame g →
+      Does x left (retransmitting τ p sc (One f) time) → Does x left (repeatingCommit τ p time)
+  unfolding repeatingCommit
+  repeat-commit-law g sc f a b e h =
+      let q : f ≡ commitFrame (p .run .group) = e ∙ ap commitFrame a in
+      subst (Does x left) (λ i. retransmitting τ p (b i) (One (q i)) time) h
+
+  pub repeat-refusal-law : (g sc : ℕ) (f : Frame) → sc ≡ p .run .sc → f ≡ groupRefusalFrame g →
+      Does x left (retransmitting τ p sc (One f) time) → Does x left (repeatingRefusal τ p g time)
+  unfolding repeatingRefusal
+  repeat-refusal-law g sc f b e h = subst (Does x left) (λ i. retransmitting τ p (b i) (One (e i)) time) h
+
+  pub confirm-again-law : (sc : ℕ) (f : Frame) → sc ≡ p .run .sc → f ≡ confirmFrame (sc + 1) →
+      Does x left (retransmitting τ p (sc + 1) (One f) time) → Does x left (confirmingAgain τ p time)
+  unfolding confirmingAgain
+  confirm-again-law sc f b e h =
+      let q : f ≡ confirmFrame (p .run .sc + 1) = e ∙ ap (λ (n : ℕ). confirmFrame (n + 1)) b in
+      subst (Does x left) (λ i. retransmitting τ p (b i + 1) (One (q i)) time) h
+
+  pub resend-law : (g sync sc : ℕ) (f k : Frame) → g ≡ p .run .group → sync ≡ p .run .sync → sc ≡ p .run .sc → f ≡ commitFrame g → k ≡ confirmFrame (sc + 1) →
+      Does x left (sending τ p (counting (p .run) (sync + 1) (sc + 1)) (Two f k) 0 time) → Does x left (resendingBoth τ p time)
+  unfolding resendingBoth
+  resend-law g sync sc f k a b d e j h =
+      let q : f ≡ commitFrame (p .run .group) = e ∙ ap commitFrame a in
+      let r : k ≡ confirmFrame (p .run .sc + 1) = j ∙ ap (λ (n : ℕ). confirmFrame (n + 1)) d in
+      subst (Does x left) (λ i. sending τ p (counting (p .run) (b i + 1) (d i + 1)) (Two (q i) (r i)) 0 time) h
+
+-- ---- the link with another Rc and Sync
+
+pub hear-link-law : (s t u : List ℕ) (rc sync : ℕ) → length s ≡ linkSize width → sync < 256 ^ 1 → rc < 256 ^ 2 → t ≡ put s 2 (oct 1 sync) → u ≡ put t 6 (oct 2 rc) →
+    decodeLink width u ≡ heardAgain (decodeLink width s) rc sync
+unfolding decodeLink linkOf linkWidths cut total heardAgain
+hear-link-law s t u rc sync h a b p q =
+    let L = laid (linkWidths width) s (linkSize width) h in
+    let M = laid-put t 2 2 (oct 1 sync) L (lit< tt) (length-oct 1 sync) refl (omega (arith, length-oct 1 sync)) p in
+    let N = laid-put u 5 6 (oct 2 rc) M (lit< tt) (length-oct 2 rc) refl (omega (arith, length-oct 2 rc)) q in
+    let l = decodeLink width s in
+    let m = num-oct 1 sync a in
+    let n = num-oct 2 rc b in
+    ap linkOf (N .cuts)
+    ∙ (λ i. record { finished = l .finished; superseded = l .superseded; sync = m i; spare = l .spare; group = l .group; rc = n i; t1 = l .t1; own = l .own; peer = l .peer })
+
+pub hear-law : (s y : List ℕ) (rc sync : ℕ) (fs : Frames) (x : Said) → length s ≡ recordSize width → length y ≡ linkSize width →
+    decodeLink width y ≡ heardAgain (decodeLink width (take (linkSize width) (drop (7 + runSize width) s))) rc sync → x ≡ sayingFrames fs →
+    Does x (putMid (7 + runSize width) (linkSize width) s y) (answering (withLink (decodePeer width s) (heardAgain (decodePeer width s .link) rc sync)) fs)
+unfolding answering withLink
+hear-law s y rc sync fs x h n e d =
+    record {
+      leaves = link-left s h y (heardAgain (decodePeer width s .link) rc sync) n (e ∙ (λ i. heardAgain (link-window s h i) rc sync));
+      says = d;
+    }
+
+-- the Sync is what a call read, the frame what a call made
+module _ (p : Peer) (x : Said) (left : List ℕ) where
+  pub hear-last-law : (rc sync : ℕ) → sync ≡ p .link .sync → Does x left (answering (withLink p (heardAgain (p .link) rc sync)) None) → Does x left (hearingLast p rc)
+  unfolding hearingLast
+  hear-last-law rc sync e h = subst (λ (y : ℕ). Does x left (answering (withLink p (heardAgain (p .link) rc y)) None)) e h
+
+  pub hear-again-law : (rc sync : ℕ) (f : Frame) → sync ≡ p .link .sync → f ≡ confirmFrame 65535
+      → Does x left (answering (withLink p (heardAgain (p .link) rc (sync + 1))) (One f)) → Does x left (hearingAgain p rc)
+  unfolding hearingAgain
+  hear-again-law rc sync f e q h = subst (Does x left) (λ i. answering (withLink p (heardAgain (p .link) rc (e i + 1))) (One (q i))) h

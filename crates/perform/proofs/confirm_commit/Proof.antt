@@ -1,0 +1,24 @@
+use Rattle.perform.proofs.Performs.{confirm-law}
+use borrow.Author.Needs.{needs}
+use Rattle.perform.proofs.confirm_commit.Statement.{statement}
+use Rattle.perform.proofs.confirm_commit.Tie as tie
+
+own-of-requires : tie.Need-own-of-requires
+own-of-requires c κs = search needs
+
+confirm-frame-requires : tie.Need-confirm-frame-requires
+confirm-frame-requires c κs = search needs
+
+form-pair-requires : tie.Need-form-pair-requires
+form-pair-requires c κs = search needs
+
+same-length : tie.Need-same-length
+same-length c = search needs
+
+returns : tie.Need-returns
+returns c = confirm-law _ _ _ _ _ _ _ _ (c .before .before .before .before .before .before .own-of .ensures) (c .before .before .before .before .confirm-frame .ensures) (c .before .before .form-pair .ensures)
+
+pub confirm-commit-spec : {M : Type 1} → statement M
+confirm-commit-spec =
+    tie.close
+    (tie.spec own-of-requires confirm-frame-requires form-pair-requires same-length returns)

@@ -1,0 +1,19 @@
+use Rattle.perform.proofs.Repeats.{hear-last-law}
+use borrow.Author.Needs.{needs}
+use Rattle.perform.proofs.hear_last.Statement.{statement}
+use Rattle.perform.proofs.hear_last.Tie as tie
+
+link-sync-of-requires : tie.Need-link-sync-of-requires
+link-sync-of-requires c κs = search needs
+
+hear-requires : tie.Need-hear-requires
+hear-requires c κs = search needs
+
+same-length : tie.Need-same-length
+same-length c = search needs
+
+returns : tie.Need-returns
+returns c = hear-last-law _ _ _ _ _ (c .before .before .before .before .link-sync-of .ensures) (c .before .before .hear .ensures)
+
+pub hear-last-spec : {M : Type 1} → statement M
+hear-last-spec = tie.close (tie.spec link-sync-of-requires hear-requires same-length returns)

@@ -1,0 +1,46 @@
+use mathlib.Core.Path.{refl}
+use Rattle.perform.proofs.Runs.{window-within, reply-token-law}
+use borrow.Author.Needs.{needs}
+use Rattle.perform.proofs.reply_token.Statement.{statement}
+use Rattle.perform.proofs.reply_token.Tie as tie
+
+group-of-requires : tie.Need-group-of-requires
+group-of-requires c κs = search needs
+
+sub-store-token : tie.Need-sub-store-token
+sub-store-token c = search needs
+
+part-store-token-start : tie.Need-part-store-token-start
+part-store-token-start c = search needs
+
+part-store-token-end : tie.Need-part-store-token-end
+part-store-token-end c = search needs
+
+store-token-requires : tie.Need-store-token-requires
+store-token-requires c κs = (search needs, window-within _ (c .before .before .before .before .before .pre .size) (c .before .before .before .before .before .pre .sync))
+
+commit-frame-requires : tie.Need-commit-frame-requires
+commit-frame-requires c κs = search needs
+
+say-frames-requires : tie.Need-say-frames-requires
+say-frames-requires c κs = search needs
+
+same-length : tie.Need-same-length
+same-length c = search needs
+
+returns : tie.Need-returns
+returns c = reply-token-law _ (c .before .before .before .before .before .before .before .before .before .before .args .s .now) (c .before .before .before .before .store-token .last .0) _ _ _ _ _ (c .before .before .before .before .before .before .group-of .ensures) (c .before .before .before .before .store-token .ensures) refl (c .before .commit-frame .ensures) (c .say-frames .ensures) (c .before .before .before .before .before .before .before .before .before .before .pre .size) (search needs)
+
+pub reply-token-spec : {M : Type 1} → statement M
+reply-token-spec =
+    tie.close
+    (tie.spec
+    group-of-requires
+    sub-store-token
+    part-store-token-start
+    part-store-token-end
+    store-token-requires
+    commit-frame-requires
+    say-frames-requires
+    same-length
+    returns)

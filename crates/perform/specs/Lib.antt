@@ -1,0 +1,1 @@
+-- The contracts of `perform` cite the book.

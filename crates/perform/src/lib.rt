@@ -1,0 +1,333 @@
+// The acts of the rule book by their names, in a record's own octets: what only one act does, and `perform`, which does the one that is named.
+ghost use mathlib.Core.Path.{_≡_};
+ghost use Prim.Native.Nat.{_+_, _≤_};
+ghost use lib.ListN.{length, getD};
+ghost use Rattle.groups.specs.Groups.{width, freshAt, freshFor};
+ghost use Rattle.record.specs.Layout.{decodeRun, decodeLink, decodePeer, runSize, linkSize, recordSize};
+ghost use Rattle.rules.specs.declared.Frames.the-variants.{One};
+ghost use Rattle.rules.specs.Parts.{withToken, switched, heardAgain, withLink};
+ghost use Rattle.rules.specs.Book.{factory, commitFrame, tokenRequestFrame, groupRefusalFrame, setT0, sending, answering, startedRun, starting, switching, answeringCommit, confirmingCommit, replyingToken, repeatingCommit, repeatingRefusal, confirmingAgain, resendingBoth, hearingLast, hearingAgain};
+ghost use Rattle.rules.specs.Book.{perform as performed};
+ghost use Rattle.rules.specs.Said.{sayingFrames, Does};
+ghost use Rattle.rules.specs.Given.{terms, call, Whole, Stocked, Ready, Able};
+use groups::COMMIT;
+use groups::Choice;
+use record::ADDRESS;
+use record::GROUP;
+use record::LINK;
+use record::LINK_SYNC;
+use record::RC;
+use record::RECORD;
+use record::REJECTED;
+use record::RUN;
+use record::RUN_OWN;
+use record::RUN_TOKEN;
+use record::STATE;
+use record::SYNC;
+use record::T0;
+use record::TOKLEN;
+use record::USED;
+use rules::Act;
+use rules::Event;
+use rules::Frames;
+use rules::Given;
+use rules::Message;
+use rules::Said;
+
+// ---- Begin
+
+// The run of "Start", in its octets.
+fn start_run(r: &mut [u8], group: u16, own: [u8; COMMIT], time: u32)
+    requires { ⌜ length (now r) ≡ runSize width ⌝ }
+    ensures { λ _. ⌜ decodeRun width (now (r .exit)) ≡ setT0 factory (startedRun group own) time ⌝ }
+{
+    let at = deadlines::t0_at(time, 0);
+    record::clear(r);
+    octets::put8(r, STATE, 1);
+    octets::put16(r, GROUP, group);
+    octets::put32(r, T0, at);
+    groups::put_commit(r, RUN_OWN, own);
+}
+
+fn start(s: &mut [u8], address: [u8; 6], group: u16, own: [u8; COMMIT], time: u32) -> Said
+    requires { ⌜ length (now s) ≡ recordSize width ⌝ }
+    ensures { λ x. ⌜ Does x (now (s .exit)) (starting factory (decodePeer width (now (s .entry))) address group own time) ⌝ }
+{
+    start_run(&mut s[RUN..LINK], group, own, time);
+    octets::put8(s, USED, 1);
+    octets::put6(s, ADDRESS, address);
+    let commit = acts::commit_frame(group);
+    Said {
+        event: Event::None,
+        frames: Frames::One(commit),
+        afresh: group,
+        refused: false,
+    }
+}
+
+// "Committed, first group, fresh commit, Sync 0, no token, send Commit, set t0."
+pub fn begin(s: &mut [u8], address: [u8; 6], groups: &[u16], fresh: &[u8], time: u32) -> Said
+    requires { ⌜ (length (now s) ≡ recordSize width) × Stocked (now groups) (now fresh) ⌝ }
+    ensures { λ x. ⌜ Does x (now (s .exit)) (starting factory (decodePeer width (now (s .entry))) address (getD (now (groups .entry)) 0 0) (freshAt (now (fresh .entry)) 0) time) ⌝ }
+{
+    let group = groups[0];
+    let own = groups::fresh_at(fresh, 0);
+    start(s, address, group, own, time)
+}
+
+// ---- RefuseGroup, AskToken, NoSlot
+
+// "send 77 with it".
+fn refuse_group(group: u16) -> Said
+    ensures { λ x. ⌜ x ≡ sayingFrames (One (groupRefusalFrame group)) ⌝ }
+{
+    let refusal = acts::group_refusal_frame(group);
+    acts::say_frames(Frames::One(refusal))
+}
+
+// "send 76 with group and expected token".
+fn ask_token(group: u16) -> Said
+    ensures { λ x. ⌜ x ≡ sayingFrames (One (tokenRequestFrame group)) ⌝ }
+{
+    let request = acts::token_request_frame(group);
+    acts::say_frames(Frames::One(request))
+}
+
+// ---- AnswerCommit, ConfirmCommit
+
+// "fresh commit, Form, send Commit and Confirm".
+fn answer_commit(
+    s: &mut [u8],
+    address: [u8; 6],
+    m: Message,
+    groups: &[u16],
+    fresh: &[u8],
+    time: u32,
+) -> Said
+    requires { ⌜ (length (now s) ≡ recordSize width) × Stocked (now groups) (now fresh) ⌝ }
+    ensures { λ x. ⌜ Does x (now (s .exit)) (answeringCommit factory (decodePeer width (now (s .entry))) address m (freshFor (now (groups .entry)) (now (fresh .entry)) (m .group)) time) ⌝ }
+{
+    let group = m.group;
+    let own = groups::fresh_for(groups, fresh, group);
+    let theirs = m.commit;
+    let commit = acts::commit_frame(group);
+    let confirm = acts::confirm_frame(1);
+    acts::form_pair(
+        s,
+        address,
+        group,
+        own,
+        theirs,
+        Frames::Two(commit, confirm),
+        group,
+        time,
+    )
+}
+
+// "Form, send Confirm".
+fn confirm_commit(s: &mut [u8], address: [u8; 6], m: Message, time: u32) -> Said
+    requires { ⌜ length (now s) ≡ recordSize width ⌝ }
+    ensures { λ x. ⌜ Does x (now (s .exit)) (confirmingCommit factory (decodePeer width (now (s .entry))) address m time) ⌝ }
+{
+    let own = record::own_of(s);
+    let theirs = m.commit;
+    let confirm = acts::confirm_frame(1);
+    acts::form_pair(
+        s,
+        address,
+        m.group,
+        own,
+        theirs,
+        Frames::One(confirm),
+        0,
+        time,
+    )
+}
+
+// ---- ReplyToken
+
+// The run of "store the token … set t0", in its octets.
+fn store_token(r: &mut [u8], toklen: u16, token: [u8; 256], time: u32)
+    requires { ⌜ (length (now r) ≡ runSize width) × (decodeRun width (now r) .sync ≤ 6) ⌝ }
+    ensures { λ _. ⌜ decodeRun width (now (r .exit)) ≡ setT0 factory (withToken (decodeRun width (now (r .entry))) toklen token) time ⌝ }
+{
+    let sync = octets::get8(r, SYNC);
+    let at = deadlines::t0_at(time, sync);
+    octets::put16(r, TOKLEN, toklen);
+    octets::put32(r, T0, at);
+    octets::put256(r, RUN_TOKEN, token);
+}
+
+// "store the token, send Commit with it, set t0, not counted".
+fn reply_token(s: &mut [u8], m: Message, time: u32) -> Said
+    requires { ⌜ Whole (now s) ⌝ }
+    ensures { λ x. ⌜ Does x (now (s .exit)) (replyingToken factory (decodePeer width (now (s .entry))) m time) ⌝ }
+{
+    let token = m.token;
+    let group = record::group_of(s);
+    store_token(&mut s[RUN..LINK], m.toklen, token, time);
+    let commit = acts::commit_frame(group);
+    acts::say_frames(Frames::One(commit))
+}
+
+// ---- SwitchGroup
+
+// The run of a change of group, in its octets.
+fn switch_run(r: &mut [u8], rejected: u8, group: u16, own: [u8; COMMIT], time: u32)
+    requires { ⌜ (length (now r) ≡ runSize width) × (decodeRun width (now r) .sync ≤ 6) ⌝ }
+    ensures { λ _. ⌜ decodeRun width (now (r .exit)) ≡ setT0 factory (switched (decodeRun width (now (r .entry))) rejected group own) time ⌝ }
+{
+    let sync = octets::get8(r, SYNC);
+    let at = deadlines::t0_at(time, sync);
+    octets::put8(r, REJECTED, rejected);
+    octets::put16(r, GROUP, group);
+    octets::put32(r, T0, at);
+    groups::put_commit(r, RUN_OWN, own);
+}
+
+fn switch_to(s: &mut [u8], rejected: u8, group: u16, own: [u8; COMMIT], time: u32) -> Said
+    requires { ⌜ Whole (now s) ⌝ }
+    ensures { λ x. ⌜ Does x (now (s .exit)) (sending factory (decodePeer width (now (s .entry))) (switched (decodePeer width (now (s .entry)) .run) rejected group own) (One (commitFrame group)) group time) ⌝ }
+{
+    switch_run(&mut s[RUN..LINK], rejected, group, own, time);
+    let commit = acts::commit_frame(group);
+    Said {
+        event: Event::None,
+        frames: Frames::One(commit),
+        afresh: group,
+        refused: false,
+    }
+}
+
+// "mark it rejected and take the first group in its own list that is not marked as rejected, with a fresh commit; none, give up."
+fn switch_group(s: &mut [u8], groups: &[u16], fresh: &[u8], time: u32) -> Said
+    requires { ⌜ Whole (now s) × Stocked (now groups) (now fresh) ⌝ }
+    ensures { λ x. ⌜ Does x (now (s .exit)) (switching factory (decodePeer width (now (s .entry))) (now (groups .entry)) (now (fresh .entry)) time) ⌝ }
+{
+    let ours = record::group_of(s);
+    let before = record::rejected_of(s);
+    let i = groups::index_of(groups, ours);
+    let rejected = groups::marked_with(before, i);
+    match groups::first_left(groups, rejected) {
+        Choice::Group(k, group) => {
+            let own = groups::fresh_at(fresh, k);
+            switch_to(s, rejected, group, own, time)
+        }
+        Choice::None => acts::abandon(s),
+    }
+}
+
+// ---- RepeatCommit, RepeatRefusal, ConfirmAgain, ResendBoth
+
+// "Repeat the Commit".
+pub fn repeat_commit(s: &mut [u8], time: u32) -> Said
+    requires { ⌜ length (now s) ≡ recordSize width ⌝ }
+    ensures { λ x. ⌜ Does x (now (s .exit)) (repeatingCommit factory (decodePeer width (now (s .entry))) time) ⌝ }
+{
+    let group = record::group_of(s);
+    let sc = record::sc_of(s);
+    let commit = acts::commit_frame(group);
+    acts::retransmit(s, sc, Frames::One(commit), time)
+}
+
+// "Repeat sending 77".
+fn repeat_refusal(s: &mut [u8], group: u16, time: u32) -> Said
+    requires { ⌜ length (now s) ≡ recordSize width ⌝ }
+    ensures { λ x. ⌜ Does x (now (s .exit)) (repeatingRefusal factory (decodePeer width (now (s .entry))) group time) ⌝ }
+{
+    let sc = record::sc_of(s);
+    let refusal = acts::group_refusal_frame(group);
+    acts::retransmit(s, sc, Frames::One(refusal), time)
+}
+
+// "Repeat with Sc + 1 and a new Confirm".
+pub fn confirm_again(s: &mut [u8], time: u32) -> Said
+    requires { ⌜ Whole (now s) ⌝ }
+    ensures { λ x. ⌜ Does x (now (s .exit)) (confirmingAgain factory (decodePeer width (now (s .entry))) time) ⌝ }
+{
+    let sc = record::sc_of(s) + 1;
+    let confirm = acts::confirm_frame(sc);
+    acts::retransmit(s, sc, Frames::One(confirm), time)
+}
+
+// "Sync + 1, Sc + 1, send Commit and Confirm, set t0".
+fn resend_both(s: &mut [u8], time: u32) -> Said
+    requires { ⌜ Whole (now s) × (decodePeer width (now s) .run .sync ≤ 5) ⌝ }
+    ensures { λ x. ⌜ Does x (now (s .exit)) (resendingBoth factory (decodePeer width (now (s .entry))) time) ⌝ }
+{
+    let group = record::group_of(s);
+    let sync = record::sync_of(s) + 1;
+    let sc = record::sc_of(s) + 1;
+    let commit = acts::commit_frame(group);
+    let confirm = acts::confirm_frame(sc);
+    acts::send_counted(s, sync, sc, Frames::Two(commit, confirm), time)
+}
+
+// ---- HearAgain, HearLast
+
+// The link with another Rc and Sync, in its octets.
+fn hear_link(l: &mut [u8], rc: u16, sync: u8)
+    requires { ⌜ length (now l) ≡ linkSize width ⌝ }
+    ensures { λ _. ⌜ decodeLink width (now (l .exit)) ≡ heardAgain (decodeLink width (now (l .entry))) rc sync ⌝ }
+{
+    octets::put8(l, LINK_SYNC, sync);
+    octets::put16(l, RC, rc);
+}
+
+// Rc is the counter; the link's Sync and the frames are what is given.
+fn hear(s: &mut [u8], rc: u16, sync: u8, frames: Frames) -> Said
+    requires { ⌜ length (now s) ≡ recordSize width ⌝ }
+    ensures { λ x. ⌜ Does x (now (s .exit)) (answering (withLink (decodePeer width (now (s .entry))) (heardAgain (decodePeer width (now (s .entry)) .link) rc sync)) frames) ⌝ }
+{
+    hear_link(&mut s[LINK..RECORD], rc, sync);
+    acts::say_frames(frames)
+}
+
+// "Rc is the counter", which is 65,535.
+fn hear_last(s: &mut [u8], counter: u16) -> Said
+    requires { ⌜ length (now s) ≡ recordSize width ⌝ }
+    ensures { λ x. ⌜ Does x (now (s .exit)) (hearingLast (decodePeer width (now (s .entry))) counter) ⌝ }
+{
+    let sync = record::link_sync_of(s);
+    hear(s, counter, sync, Frames::None)
+}
+
+// "Rc is the counter, Sync + 1 and a Confirm with counter 65,535".
+fn hear_again(s: &mut [u8], counter: u16) -> Said
+    requires { ⌜ (length (now s) ≡ recordSize width) × (decodePeer width (now s) .link .sync ≤ 5) ⌝ }
+    ensures { λ x. ⌜ Does x (now (s .exit)) (hearingAgain (decodePeer width (now (s .entry))) counter) ⌝ }
+{
+    let sync = record::link_sync_of(s) + 1;
+    let confirm = acts::confirm_frame(65535);
+    hear(s, counter, sync, Frames::One(confirm))
+}
+
+// ---- each act by its name
+
+pub fn perform(s: &mut [u8], g: Given, m: Message, groups: &[u16], fresh: &[u8], act: Act) -> Said
+    requires { ⌜ Ready (now s) (now groups) (now fresh) m × Able act (decodePeer width (now s)) ⌝ }
+    ensures { λ x. ⌜ Does x (now (s .exit)) (performed (terms g (now (groups .entry))) (call g (now (fresh .entry))) (decodePeer width (now (s .entry))) m act) ⌝ }
+{
+    let address = g.address;
+    let time = g.time;
+    match act {
+        Act::Drop => acts::drop_frame(s, time),
+        Act::RefuseGroup => refuse_group(m.group),
+        Act::AskToken => ask_token(m.group),
+        Act::NoSlot => acts::say_refused(),
+        Act::AnswerCommit => answer_commit(s, address, m, groups, fresh, time),
+        Act::ConfirmCommit => confirm_commit(s, address, m, time),
+        Act::ReplyToken => reply_token(s, m, time),
+        Act::SwitchGroup => switch_group(s, groups, fresh, time),
+        Act::RepeatCommit => repeat_commit(s, time),
+        Act::RepeatRefusal => repeat_refusal(s, m.group, time),
+        Act::ResendBoth => resend_both(s, time),
+        Act::ConfirmAgain => confirm_again(s, time),
+        Act::GiveUp => acts::abandon(s),
+        Act::Accept => acts::accept(s, m.counter, time),
+        Act::HearAgain => hear_again(s, m.counter),
+        Act::HearLast => hear_last(s, m.counter),
+        Act::EndLink => acts::end_link(s),
+        Act::Begin => begin(s, address, groups, fresh, time),
+    }
+}

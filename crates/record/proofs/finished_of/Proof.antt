@@ -1,0 +1,17 @@
+use mathlib.Core.Path.{sym, _∙_}
+use Rattle.record.proofs.Windows.{finished-law}
+use borrow.Author.Needs.{needs}
+use Rattle.record.proofs.finished_of.Statement.{statement}
+use Rattle.record.proofs.finished_of.Tie as tie
+
+add-get8 : tie.Need-add-get8
+add-get8 c = search needs
+
+get8-requires : tie.Need-get8-requires
+get8-requires c κs = search needs
+
+returns : tie.Need-returns
+returns c = c .get8 .ensures ∙ sym (finished-law _)
+
+pub finished-of-spec : {M : Type 1} → statement M
+finished-of-spec = tie.close (tie.spec add-get8 get8-requires returns)

@@ -1,0 +1,59 @@
+-- The outcomes of an act that tests for itself, with what is known where each is reached: to show a property of its step, show it of each outcome.
+use mathlib.Core.Path.{_≡_, refl}
+use mathlib.Core.Bool.{Bool, true, false}
+use mathlib.Core.List.{List}
+use Prim.Native.Nat.{ℕ, _+_, _≤_, _<_}
+use lib.Dec.{eqb, ltb}
+use borrow.Author.Tests.{eqb-true, eqb-false, ltb-true, ltb-false}
+use Rattle.octets.specs.Scan.{if_then_else_}
+use Rattle.groups.specs.Groups.{freshAt, firstLeft, indexOf, mark}
+use Rattle.groups.specs.declared.Choice.{Choice}
+use Rattle.groups.specs.declared.Choice.the-variants as choice
+use Rattle.record.specs.declared.Peer.{Peer}
+use Rattle.record.specs.Layout.{noPeer}
+use Rattle.rules.specs.declared.Frames.{Frames}
+use Rattle.rules.specs.declared.Frames.the-variants.{One}
+use Rattle.rules.specs.Parts.{withRun, counting, switched}
+use Rattle.rules.specs.Book.{_is_, _above_, Timing, Step, commitFrame, setT0, sending, settled, abandoning, retransmitting, dropping, switchingTo, switching}
+
+pub whether : {A : Type 0} (P : A → Type 0) (b : Bool) (x y : A) → (b ≡ true → P x) → (b ≡ false → P y) → P (if b then x else y)
+whether P true x y f g = f refl
+whether P false x y f g = g refl
+
+-- "77: our group": a group is left, or none is
+pub switch-outcomes : (P : Step → Type 0) (τ : Timing) (p : Peer) (groups fresh : List ℕ) (time : ℕ) →
+    ((i g : ℕ) → firstLeft groups 0 (mark (p .run .rejected) (indexOf groups (p .run .group))) ≡ choice.Group i g
+    → P (sending τ p (switched (p .run) (mark (p .run .rejected) (indexOf groups (p .run .group))) g (freshAt fresh i)) (One (commitFrame g)) g time))
+    → (firstLeft groups 0 (mark (p .run .rejected) (indexOf groups (p .run .group))) ≡ choice.None → P (abandoning p))
+    → P (switching τ p groups fresh time)
+unfolding switching switchingTo
+switch-outcomes P τ p groups fresh time f g = go (mark (p .run .rejected) (indexOf groups (p .run .group))) (firstLeft groups 0 (mark (p .run .rejected) (indexOf groups (p .run .group)))) f g
+  where
+    go : (r : ℕ) (c : Choice) →
+        ((i g : ℕ) → c ≡ choice.Group i g → P (sending τ p (switched (p .run) r g (freshAt fresh i)) (One (commitFrame g)) g time))
+        → (c ≡ choice.None → P (abandoning p)) → P (switchingTo τ p r c fresh time)
+    go r (choice.Group i g) f h = f i g refl
+    go r choice.None f h = h refl
+
+pub repeat-outcomes : (P : Step → Type 0) (τ : Timing) (p : Peer) (sc : ℕ) (fs : Frames) (time : ℕ) →
+    (τ .limit < p .run .sync → P (abandoning p))
+    → (p .run .sync ≤ τ .limit → P (sending τ p (counting (p .run) (p .run .sync + 1) sc) fs 0 time))
+    → P (retransmitting τ p sc fs time)
+unfolding retransmitting
+repeat-outcomes P τ p sc fs time f g =
+    whether P (p .run .sync above τ .limit) (abandoning p) (sending τ p (counting (p .run) (p .run .sync + 1) sc) fs 0 time)
+    (λ e. f (ltb-true _ _ e)) (λ e. g (ltb-false _ _ e))
+
+pub drop-outcomes : (P : Peer → Type 0) (τ : Timing) (p : Peer) (time : ℕ) →
+    (p .run .state ≡ 0 → P p) → ((p .run .state ≡ 0 → ⊥) → P (withRun p (setT0 τ (p .run) time))) → P (dropping τ p time .peer)
+unfolding dropping
+drop-outcomes P τ p time f g =
+    whether P (p .run .state is 0) p (withRun p (setT0 τ (p .run) time)) (λ e. f (eqb-true _ _ e)) (λ e. g (eqb-false _ _ e))
+
+pub settle-outcomes : (P : Peer → Type 0) (p : Peer) →
+    (p .run .state ≡ 0 → p .link .finished ≡ 0 → P noPeer) → (((p .run .state ≡ 0) × (p .link .finished ≡ 0) → ⊥) → P p) → P (settled p)
+unfolding settled
+settle-outcomes P p f g =
+    whether P (p .run .state is 0) (if p .link .finished is 0 then noPeer else p) p
+    (λ e. whether P (p .link .finished is 0) noPeer p (λ h. f (eqb-true _ _ e) (eqb-true _ _ h)) (λ h. g (λ k. eqb-false _ _ h (k .1))))
+    (λ e. g (λ k. eqb-false _ _ e (k .0)))

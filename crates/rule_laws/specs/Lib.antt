@@ -1,0 +1,2 @@
+-- The laws of the rules cite the book and the form of a record.
+pub mod Slots

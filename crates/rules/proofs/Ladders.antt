@@ -1,0 +1,137 @@
+-- Whatever act a ladder names, its row in Asked holds. The one place where the rungs are gone through; every law of the rules is then by act.
+use mathlib.Core.Path.{_≡_, refl, sym, _∙_, subst}
+use mathlib.Core.Bool.{Bool, true, false, not, _&&_}
+use mathlib.Core.Logic.{_⊎_, inl, inr}
+use Prim.Native.Nat.{ℕ, _≤_, _<_}
+use native.Mathlib.Omega.{arith}
+use lib.Dec.{eqb, ltb}
+use borrow.Author.Tests.{eqb-true, eqb-false, ltb-true, ltb-false, not-true, not-false}
+use Rattle.octets.specs.Scan.{if_then_else_}
+use Rattle.octets.proofs.Scan.{and-left}
+use Rattle.octets.specs.Octets.{same, higher}
+use Rattle.record.specs.declared.Peer.{Peer}
+use Rattle.rules.specs.declared.Message.{Message}
+use Rattle.rules.specs.declared.Act.{Act}
+use Rattle.rules.specs.declared.Act.the-variants.{ResendBoth, HearAgain}
+use Rattle.rules.specs.Given.{Able}
+use Rattle.rules.specs.Book.{_is_, _isnt_, _above_, holds, Terms, Call, wrongToken, linkedWith, t0Due, ourFresh, silence, startAct, commitIdle, commitCommitted, commitConfirmed, confirmCommitted, confirmConfirmed, confirmLinked, clockAct, commitAct, confirmAct, frameAct}
+use Rattle.rules.specs.Asked.{NoRun, Offer, Asked, refuse-group, ask-token, no-slot, begin, answer-commit, confirm-commit, reply-token, switch-group, repeat-commit, repeat-refusal, resend-both, confirm-again, give-up, accept, hear-again, hear-last, end-link, drop}
+
+-- a rung: the act that it names if its test holds, and the rungs below if not
+rung : (P : Act → Type 0) (b : Bool) (x y : Act) → (b ≡ true → P x) → (b ≡ false → P y) → P (if b then x else y)
+rung P true x y f g = f refl
+rung P false x y f g = g refl
+
+is-zero : (n : ℕ) → not (eqb n 0) ≡ false → n ≡ 0
+is-zero n e = eqb-true n 0 (not-false (eqb n 0) e)
+
+module _ (t : Terms) (c : Call) (p : Peer) (m : Message) where
+  abbrev Names : Act → Type 0
+  Names a = Asked t c p m a
+
+  -- a start: it is refused where a run is in being
+  pub start-asked : NoRun p → Names (startAct t)
+  unfolding startAct holds
+  start-asked r = rung Names (t .full) _ _ (λ e. no-slot r e) (λ e. begin r e)
+
+  idle-asked : NoRun p → Names (commitIdle t c p m)
+  unfolding commitIdle holds
+  idle-asked r =
+      rung Names (m .status isnt 0) _ _ (λ e. drop)
+      (λ z. rung Names (not (m .listed)) _ _ (λ e. refuse-group r (is-zero _ z) (not-true _ e))
+      (λ l. rung Names (linkedWith (p .link) m) _ _ (λ e. drop)
+      (λ u. rung Names (t .crowded && (m .toklen is 0)) _ _ (λ e. ask-token r (is-zero _ z) (not-false _ l))
+      (λ k. rung Names (wrongToken t c m) _ _ (λ e. drop)
+      (λ w. rung Names (same (m .commit) (ourFresh t c m)) _ _ (λ e. drop)
+      (λ o. rung Names (not (c .verified)) _ _ (λ e. drop)
+      (λ v. rung Names (t .full) _ _ (λ e. no-slot r e)
+      (λ n. answer-commit (r .not-confirmed) (λ d. n) (record { status = is-zero _ z; listed = not-false _ l; verified = not-false _ v }) o))))))))
+
+  committed-asked : p .run .state ≡ 1 → Names (commitCommitted t c p m)
+  unfolding commitCommitted holds
+  committed-asked s =
+      rung Names (m .status is 76) _ _ (λ e. rung Names (m .group is p .run .group) _ _ (λ g. reply-token s (eqb-true _ _ e) (eqb-true _ _ g)) (λ g. drop))
+      (λ x. rung Names (m .status is 77) _ _ (λ e. rung Names (m .group is p .run .group) _ _ (λ g. switch-group s (eqb-true _ _ e) (eqb-true _ _ g)) (λ g. drop))
+      (λ y. rung Names (m .status isnt 0) _ _ (λ e. drop)
+      (λ z. rung Names (not (m .listed)) _ _ (λ e. repeat-refusal s (is-zero _ z) (not-true _ e))
+      (λ l. rung Names (m .group isnt p .run .group) _ _
+      (λ g. rung Names (higher (t .own) (c .address)) _ _ (λ e. repeat-commit s (is-zero _ z))
+      (λ h. rung Names (not (c .verified)) _ _ (λ e. drop)
+      (λ v. rung Names (same (m .commit) (ourFresh t c m)) _ _ (λ e. drop)
+      (λ o. answer-commit (λ q. omega arith) (λ d. absurd (d s)) (record { status = is-zero _ z; listed = not-false _ l; verified = not-false _ v }) o))))
+      (λ g. rung Names (same (m .commit) (p .run .own)) _ _ (λ e. drop)
+      (λ o. rung Names (not (c .verified)) _ _ (λ e. drop)
+      (λ v. confirm-commit s (record { status = is-zero _ z; listed = not-false _ l; verified = not-false _ v }) (eqb-true _ _ (not-false _ g)) o)))))))
+
+  confirmed-asked : p .run .state ≡ 2 → Names (commitConfirmed t p m)
+  unfolding commitConfirmed
+  confirmed-asked s =
+      rung Names (m .status isnt 0) _ _ (λ e. drop)
+      (λ z. rung Names (p .run .sync above t .timing .limit) _ _ (λ e. give-up s (is-zero _ z) (ltb-true _ _ e))
+      (λ l. rung Names (m .group isnt p .run .group) _ _ (λ e. drop) (λ g. resend-both s (is-zero _ z) (ltb-false _ _ l) (eqb-true _ _ (not-false _ g)))))
+
+  confirm-committed-asked : p .run .state ≡ 1 → Names (confirmCommitted m)
+  unfolding confirmCommitted
+  confirm-committed-asked s = rung Names (m .status isnt 0) _ _ (λ e. drop) (λ z. repeat-commit s (is-zero _ z))
+
+  confirm-confirmed-asked : p .run .state ≡ 2 → (m .sequence ≡ 1 → ⊥) → Names (confirmConfirmed c m)
+  unfolding confirmConfirmed holds
+  confirm-confirmed-asked s d =
+      rung Names (m .status isnt 0) _ _ (λ e. drop) (λ z. rung Names (not (c .verified)) _ _ (λ e. drop) (λ v. accept s d (is-zero _ z) (not-false _ v)))
+
+  confirm-linked-asked : NoRun p → (p .link .finished ≡ 0 → ⊥) → Names (confirmLinked t c p m)
+  unfolding confirmLinked holds
+  confirm-linked-asked r n =
+      rung Names (m .status isnt 0) _ _ (λ e. drop)
+      (λ z. rung Names (p .link .sync above t .timing .limit) _ _ (λ e. end-link)
+      (λ l. rung Names (not (m .counter above p .link .rc)) _ _ (λ e. drop)
+      (λ h. rung Names (not (c .verified)) _ _ (λ e. drop)
+      (λ v. rung Names (m .counter is 65535) _ _ (λ e. hear-last r n (ltb-false _ _ l) (ltb-true _ _ (not-false _ h)) (not-false _ v))
+      (λ e. hear-again r n (ltb-false _ _ l) (ltb-true _ _ (not-false _ h)) (not-false _ v))))))
+
+  pub commit-asked : Names (commitAct t c p m)
+  unfolding commitAct
+  commit-asked =
+      rung Names (p .run .state is 1) _ _ (λ e. committed-asked (eqb-true _ _ e))
+      (λ d₁. rung Names (p .run .state is 2) _ _ (λ e. confirmed-asked (eqb-true _ _ e))
+      (λ d₂. idle-asked (record { not-committed = eqb-false _ _ d₁; not-confirmed = eqb-false _ _ d₂ })))
+
+  pub confirm-asked : (m .sequence ≡ 1 → ⊥) → Names (confirmAct t c p m)
+  unfolding confirmAct
+  confirm-asked d =
+      rung Names (p .run .state is 1) _ _ (λ e. confirm-committed-asked (eqb-true _ _ e))
+      (λ d₁. rung Names (p .run .state is 2) _ _ (λ e. confirm-confirmed-asked (eqb-true _ _ e) d)
+      (λ d₂. rung Names (p .link .finished isnt 0) _ _
+      (λ e. confirm-linked-asked (record { not-committed = eqb-false _ _ d₁; not-confirmed = eqb-false _ _ d₂ }) (eqb-false _ _ (not-true _ e))) (λ n. drop)))
+
+  pub frame-asked : Names (frameAct t c p m)
+  unfolding frameAct
+  frame-asked = rung Names (m .sequence is 1) _ _ (λ e. commit-asked) (λ e. confirm-asked (eqb-false _ _ e))
+
+-- a deadline: "t0 before t1"
+pub clock-asked : (t : Terms) (c : Call) (p : Peer) → (p .run .state ≡ 0) ⊎ ((p .run .state ≡ 1) ⊎ (p .run .state ≡ 2)) → Asked t c p silence (clockAct p (c .time))
+unfolding clockAct holds t0Due
+clock-asked t c p states =
+    rung (Asked t c p silence) (t0Due p (c .time)) _ _
+    (λ q. rung (Asked t c p silence) (p .run .state is 2) _ _ (λ e. confirm-again (eqb-true _ _ e) refl)
+    (λ d. repeat-commit (one states (eqb-false _ _ (not-true _ (and-left _ _ q))) (eqb-false _ _ d)) refl))
+    (λ e. end-link)
+  where
+    one : (p .run .state ≡ 0) ⊎ ((p .run .state ≡ 1) ⊎ (p .run .state ≡ 2)) → (p .run .state ≡ 0 → ⊥) → (p .run .state ≡ 2 → ⊥) → p .run .state ≡ 1
+    one (inl e) d₀ d₂ = absurd (d₀ e)
+    one (inr (inl e)) d₀ d₂ = e
+    one (inr (inr e)) d₀ d₂ = absurd (d₂ e)
+
+-- what the two acts that count without a test of their own ask for
+resend-low : (t : Terms) (c : Call) (p : Peer) (m : Message) → Asked t c p m ResendBoth → p .run .sync ≤ t .timing .limit
+resend-low t c p m (resend-both s z l g) = l
+
+hear-low : (t : Terms) (c : Call) (p : Peer) (m : Message) → Asked t c p m HearAgain → p .link .sync ≤ t .timing .limit
+hear-low t c p m (hear-again r n l h v) = l
+
+pub able : (t : Terms) (c : Call) (p : Peer) (m : Message) (a b : Act) → t .timing .limit ≡ 5 → a ≡ b → Asked t c p m b → Able a p
+able t c p m a b f e k =
+    record {
+      resend = λ q. subst (λ (n : ℕ). p .run .sync ≤ n) f (resend-low t c p m (subst (Asked t c p m) (sym e ∙ q) k));
+      hear = λ q. subst (λ (n : ℕ). p .link .sync ≤ n) f (hear-low t c p m (subst (Asked t c p m) (sym e ∙ q) k));
+    }

@@ -1,0 +1,52 @@
+use Rattle.record.specs.Codec.{cut}
+use Rattle.record.specs.Layout.{decodeRun, runOf, runWidths}
+use Rattle.soundness.specs.Soundness.{committedOk, commitOk}
+use borrow.Author.Needs.{needs}
+use Rattle.soundness.proofs.committed_ok.Statement.{statement}
+use Rattle.soundness.proofs.committed_ok.Tie as tie
+
+get8-requires : tie.Need-get8-requires
+get8-requires c κs = search needs
+
+get16-requires : tie.Need-get16-requires
+get16-requires c κs = search needs
+
+get16-requires-2 : tie.Need-get16-requires-2
+get16-requires-2 c κs = search needs
+
+rejected-ok-requires : tie.Need-rejected-ok-requires
+rejected-ok-requires c κs = search needs
+
+is-listed-requires : tie.Need-is-listed-requires
+is-listed-requires c κs = search needs
+
+token-ok-requires : tie.Need-token-ok-requires
+token-ok-requires c κs = search needs
+
+commit-length-requires : tie.Need-commit-length-requires
+commit-length-requires c κs = search needs
+
+zero-tail-requires : tie.Need-zero-tail-requires
+zero-tail-requires c κs = search needs
+
+zero-part-requires : tie.Need-zero-part-requires
+zero-part-requires c κs = search needs
+
+returns : tie.Need-returns
+unfolding committedOk commitOk decodeRun runOf runWidths cut
+returns c = cc
+
+pub committed-ok-spec : {M : Type 1} → statement M
+committed-ok-spec =
+    tie.close
+    (tie.spec
+    get8-requires
+    get16-requires
+    get16-requires-2
+    rejected-ok-requires
+    is-listed-requires
+    token-ok-requires
+    commit-length-requires
+    zero-tail-requires
+    zero-part-requires
+    returns)

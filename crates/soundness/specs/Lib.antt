@@ -1,0 +1,2 @@
+-- What the contracts of `form` cite.
+pub mod Soundness

@@ -1,0 +1,223 @@
+-- The table that set up makes: its octets, and that it is sound.
+use mathlib.Core.Path.{_≡_, refl, sym, ap, _∙_, subst}
+use mathlib.Core.Bool.{Bool, true, false, not, _&&_}
+use mathlib.Core.List.{List, [], _∷_, _++_, append-nil}
+use Prim.Native.Nat.{ℕ, zero, suc, _+_, _-_, _*_, _/_, _%_, _≤_, _<_}
+use native.Mathlib.Omega.{arith}
+use native.Mathlib.Decide.{ℕ-discrete}
+use lib.Dec.{eqb, leb, lit<}
+use lib.ListN.{length, take, drop, getD, replicate, length-replicate, length-drop, drop-of-length-le}
+use lib.Seq.{length-take-le, drop-at}
+use borrow.Rule.Slice.PartMut.{putMid}
+use borrow.Author.Tests.{eqb-true, leb-true, eq-eqb, ne-eqb, not-true, not-false}
+use Rattle.octets.specs.Octets.{Bytes, num, zeroAddress, put}
+use Rattle.octets.proofs.Laws.{mid-put}
+use Rattle.octets.specs.Scan.{if_then_else_, countBelow}
+use Rattle.octets.proofs.Scan.{clash, and-left, and-right}
+use Rattle.record.specs.declared.Peer.{Peer}
+use Rattle.record.specs.declared.Header.{Header}
+use Rattle.record.specs.declared.Settings.{Settings}
+use Rattle.record.specs.Layout.{noPeer, noRun, encodeHeader}
+use Rattle.record.proofs.Laws.{fit-no-peer, zero-peer}
+use Rattle.soundness.specs.Soundness.{ownOk, settingsOk, groupsOk, peerOk}
+use Rattle.soundness.proofs.Laws.{form-header, no-peer-ok}
+use Rattle.table.specs.Table.{size, octetsOf, encodeTable, decodeTable, slot, slots, inUse, isOpen, belongs, usedCount, openCount, sound}
+use Rattle.table.specs.Initial.{slotsFor, lengthOk, initialHeader, initialTable, initialOk, initial}
+use Rattle.table.proofs.Octets.{Fits, none, more, FitTable, decode-encode, bytes-table}
+use Rattle.table.proofs.Kept.{Form, form-sound}
+
+-- every slot of a fresh table is free
+replicate-at : (n k : ℕ) (p : Peer) → getD (replicate n p) k p ≡ p
+replicate-at zero k p = refl
+replicate-at (suc n) zero p = refl
+replicate-at (suc n) (suc k) p = replicate-at n k p
+
+pub initial-slot : (s : Settings) (own : List ℕ) (n k : ℕ) → slot (initialTable s own n) k ≡ noPeer
+unfolding slot initialTable
+initial-slot s own n k = replicate-at n k noPeer
+
+no-count : (f : ℕ → Bool) (n : ℕ) → ((k : ℕ) → f k ≡ false) → countBelow f n ≡ 0
+unfolding countBelow
+no-count f zero h = refl
+no-count f (suc n) h = rw (no-count f n h, h n) refl
+
+unused : inUse noPeer ≡ false
+unfolding noPeer
+unused = refl
+
+not-open : isOpen noPeer ≡ false
+unfolding noPeer noRun
+not-open = refl
+
+module _ (s : Settings) (own : List ℕ) (n : ℕ) (ok : settingsOk s ≡ true) (o : ownOk own ≡ true) (some : 1 ≤ n) (few : n ≤ 64) where
+  pub fresh-form : Form (initialTable s own n)
+  unfolding initialTable initialHeader settingsOk usedCount openCount belongs zeroAddress num
+  fresh-form = record {
+    header = form-header (initialHeader s own n) (record {
+      some = some;
+      few = few;
+      size = refl;
+      first = refl;
+      spare = refl;
+      own = o;
+      groups = and-left _ _ ok;
+      spare1 = refl;
+      threshold = leb-true _ _ (and-right (groupsOk (s .count) (s .groups)) _ ok);
+      spare2 = refl;
+    });
+    each = λ k h. subst (λ (p : Peer). peerOk own (take (s .count) (s .groups)) p ≡ true) (sym (initial-slot s own n k)) (no-peer-ok own (take (s .count) (s .groups)));
+    apart = λ i j li lj d u. absurd (clash u (ap inUse (initial-slot s own n j) ∙ unused));
+    used = sym (no-count _ n (λ k. ap inUse (initial-slot s own n k) ∙ unused));
+    opened = sym (no-count _ n (λ k. ap isOpen (initial-slot s own n k) ∙ not-open));
+  }
+
+-- what `length_ok` shows
+pub length-short : (n : ℕ) → n < 32 → false ≡ lengthOk n
+unfolding lengthOk slotsFor
+length-short n h = let e : (n - 32) / size ≡ 0 = omega arith in sym (rw e refl)
+
+pub length-law : (n k : ℕ) → 32 ≤ n → k ≡ slotsFor n → (leb 1 k && (leb k 64 && eqb ((n - 32) % size) 0)) ≡ lengthOk n
+unfolding lengthOk slotsFor
+length-law n k h e = rw e (ap (λ (b : Bool). leb 1 ((n - 32) / size) && (leb ((n - 32) / size) 64 && b)) (go (ℕ-discrete ((n - 32) % size) 0)))
+  where
+    go : Dec ((n - 32) % size ≡ 0) → eqb ((n - 32) % size) 0 ≡ eqb n (32 + size * ((n - 32) / size))
+    go (yes z) = eq-eqb _ _ z ∙ sym (eq-eqb n (32 + size * ((n - 32) / size)) (omega arith))
+    go (no d) = ne-eqb _ _ d ∙ sym (ne-eqb n (32 + size * ((n - 32) / size)) (λ q. d (omega arith)))
+
+-- ---- the fresh table fits, and its octets
+
+fits-none : (n : ℕ) → Fits (replicate n noPeer)
+fits-none zero = none
+fits-none (suc n) = more fit-no-peer (fits-none n)
+
+zeros-append : (m n : ℕ) → replicate m 0 ++ replicate n 0 ≡ replicate {A = ℕ} (m + n) 0
+zeros-append zero n = let e : 0 + n ≡ n = omega arith in rw e refl
+zeros-append (suc m) n = let e : suc m + n ≡ suc (m + n) = omega arith in rw e (ap (λ (l : List ℕ). 0 ∷ l) (zeros-append m n))
+
+octets-none : (n : ℕ) → octetsOf (replicate n noPeer) ≡ replicate (size * n) 0
+unfolding octetsOf
+octets-none zero = refl
+octets-none (suc n) = let e : size + size * n ≡ size * suc n = omega arith in rw (zero-peer, octets-none n) (zeros-append size (size * n) ∙ ap (λ (m : ℕ). replicate m 0) e)
+
+pub initial-octets : (s : Settings) (own : List ℕ) (n : ℕ) → encodeTable (initialTable s own n) ≡ encodeHeader (initialHeader s own n) ++ replicate (size * n) 0
+unfolding encodeTable initialTable
+initial-octets s own n = ap (λ (l : List ℕ). encodeHeader (initialHeader s own n) ++ l) (octets-none n)
+
+-- settings and an own address whose numbers and arrays fit
+pub record FitSettings (s : Settings) (own : List ℕ) : Type 0 where
+  pub count : s .count < 256
+  pub groups : length (s .groups) ≡ 2
+  pub group0 : getD (s .groups) 0 0 < 65536
+  pub group1 : getD (s .groups) 1 0 < 65536
+  pub threshold : s .threshold < 65536
+  pub six : length own ≡ 6
+  pub bytes : Bytes own
+
+bytes-zeros : (n : ℕ) → Bytes (replicate n 0)
+bytes-zeros zero i = lit< tt
+bytes-zeros (suc n) zero = lit< tt
+bytes-zeros (suc n) (suc i) = bytes-zeros n i
+
+pub fit-initial : (s : Settings) (own : List ℕ) (n : ℕ) → n ≤ 64 → FitSettings s own → FitTable (initialTable s own n)
+unfolding initialTable initialHeader
+fit-initial s own n h f = record {
+  header = record {
+    shape = record {
+      slots = omega arith;
+      used = lit< tt;
+      opened = lit< tt;
+      size = lit< tt;
+      first = lit< tt;
+      spare = length-replicate {A = ℕ} 6 0;
+      own = f .six;
+      count = f .count;
+      spare1 = lit< tt;
+      groups = f .groups;
+      group0 = f .group0;
+      group1 = f .group1;
+      threshold = f .threshold;
+      spare2 = lit< tt;
+    };
+    spare = bytes-zeros 6;
+    own = f .bytes;
+  };
+  peers = fits-none n;
+}
+
+length-initial : (s : Settings) (own : List ℕ) (n : ℕ) → length (initialTable s own n .peers) ≡ slots (initialTable s own n)
+unfolding initialTable initialHeader
+length-initial s own n = length-replicate n noPeer
+
+-- what cause 1 leaves out
+pub record InitialForm (s : Settings) (own : List ℕ) (l : ℕ) : Type 0 where
+  pub settings : settingsOk s ≡ true
+  pub owner : ownOk own ≡ true
+  pub some : 1 ≤ slotsFor l
+  pub few : slotsFor l ≤ 64
+  pub whole : l ≡ 32 + size * slotsFor l
+
+pub initial-ok-form : (s : Settings) (own : List ℕ) (l : ℕ) → initialOk s own l ≡ true → InitialForm s own l
+unfolding initialOk lengthOk
+initial-ok-form s own l ok =
+    let k₁ = and-right (settingsOk s) _ ok in
+    let k₂ = and-right (ownOk own) _ k₁ in
+    let k₃ = and-right (leb 1 (slotsFor l)) _ k₂ in
+    record { settings = and-left _ _ ok; owner = and-left _ _ k₁; some = leb-true _ _ (and-left _ _ k₂); few = leb-true _ _ (and-left _ _ k₃); whole = eqb-true _ _ (and-right (leb (slotsFor l) 64) _ k₃) }
+
+-- THE FRESH TABLE IS SOUND
+pub initial-sound : (s : Settings) (own t : List ℕ) → FitSettings s own → initialOk s own (length t) ≡ true → sound (initial s own t) ≡ true
+unfolding initial
+initial-sound s own t f ok =
+    let g = initial-ok-form s own (length t) ok in
+    let n = slotsFor (length t) in
+    rw ok (form-sound (initialTable s own n) (fit-initial s own n (g .few) f) (length-initial s own n) (fresh-form s own n (g .settings) (g .owner) (g .some) (g .few)))
+
+-- and its table is the fresh one
+pub initial-decoded : (s : Settings) (own t : List ℕ) → FitSettings s own → initialOk s own (length t) ≡ true → decodeTable (initial s own t) ≡ initialTable s own (slotsFor (length t))
+unfolding initial
+initial-decoded s own t f ok =
+    let g = initial-ok-form s own (length t) ok in
+    rw ok (decode-encode (initialTable s own (slotsFor (length t))) (fit-initial s own (slotsFor (length t)) (g .few) f))
+
+pub bytes-initial : (s : Settings) (own t : List ℕ) → FitSettings s own → Bytes t → Bytes (initial s own t)
+unfolding initial
+bytes-initial s own t f b = go (initialOk s own (length t)) refl
+  where
+    go : (x : Bool) → initialOk s own (length t) ≡ x → Bytes (if initialOk s own (length t) then encodeTable (initialTable s own (slotsFor (length t))) else t)
+    go true e = rw e (bytes-table (initialTable s own (slotsFor (length t))) (fit-initial s own (slotsFor (length t)) (initial-ok-form s own (length t) e .few) f))
+    go false e = rw e b
+
+-- CAUSE 1 leaves every octet
+pub initial-refused : (s : Settings) (own t : List ℕ) → initialOk s own (length t) ≡ false → initial s own t ≡ t
+unfolding initial
+initial-refused s own t e = rw e
+
+-- what `fill` and `write_initial` show
+pub fill-law : (t y z : List ℕ) (h : Header) → 32 ≤ length t → length (encodeHeader h) ≡ 32 → y ≡ replicate (length (take (length t - 32) (drop 32 t))) 0 → z ≡ encodeHeader h
+    → putMid 0 32 (putMid 32 (length t - 32) t y) z ≡ encodeHeader h ++ replicate (length t - 32) 0
+unfolding put
+fill-law t y z h l e ey ez =
+    let a : length (take (length t - 32) (drop 32 t)) ≡ length t - 32 = length-take-le (length t - 32) (drop 32 t) (simp length-drop (omega arith)) in
+    let ly : length y ≡ length t - 32 = ap length ey ∙ length-replicate {A = ℕ} (length (take (length t - 32) (drop 32 t))) 0 ∙ a in
+    let b : drop (32 + length y) t ≡ [] = drop-of-length-le t {i = 32 + length y} (omega arith) in
+    let m : putMid 32 (length t - 32) t y ≡ take 32 t ++ y = mid-put 32 (length t - 32) t y ly ∙ rw (b, append-nil) refl in
+    let n : length (take 32 t) ≡ 0 + length z = length-take-le 32 t l ∙ sym (ap length ez ∙ e) ∙ omega arith in
+    mid-put 0 32 _ z (ap length ez ∙ e) ∙ ap (λ (x : List ℕ). put x 0 z) m ∙ rw (drop-at (take 32 t) y (0 + length z) n, ey, a, ez) refl
+
+pub refused-law : (s : Settings) (own t : List ℕ) (b : Bool) → b ≡ initialOk s own (length t) → not b ≡ true → (false ≡ initialOk s own (length t)) × (t ≡ initial s own t)
+refused-law s own t b e q = let z : initialOk s own (length t) ≡ false = sym e ∙ not-true b q in (sym z, sym (initial-refused s own t z))
+
+pub initial-by : (s : Settings) (own t : List ℕ) (b : Bool) → b ≡ initialOk s own (length t) → not b ≡ false → InitialForm s own (length t)
+initial-by s own t b e q = initial-ok-form s own (length t) (sym e ∙ not-false b q)
+
+pub long-by : (s : Settings) (own t : List ℕ) (b : Bool) → b ≡ initialOk s own (length t) → not b ≡ false → 32 ≤ length t
+long-by s own t b e q = let g = initial-by s own t b e q in omega (arith, g .whole, g .some)
+
+pub written-law : (s : Settings) (own t y : List ℕ) (b : Bool) (k : ℕ) (h : Header) → b ≡ initialOk s own (length t) → not b ≡ false → k ≡ slotsFor (length t) → h ≡ initialHeader s own k
+    → y ≡ encodeHeader h ++ replicate (length t - 32) 0 → (true ≡ initialOk s own (length t)) × (y ≡ initial s own t)
+unfolding initial
+written-law s own t y b k h e q ek eh ey =
+    let ok : initialOk s own (length t) ≡ true = sym e ∙ not-false b q in
+    let g = initial-by s own t b e q in
+    let w : length t - 32 ≡ size * slotsFor (length t) = omega (arith, g .whole) in
+    (sym ok, ey ∙ rw (ok, eh, ek, w) (sym (initial-octets s own (slotsFor (length t)))))

@@ -1,2 +1,0 @@
--- What the contracts of `turn` cite.
-pub mod Turn
