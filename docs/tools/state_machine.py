@@ -1,13 +1,19 @@
 #!/usr/bin/env python3
-"""Draws docs/state-machine.svg from the rules below.
+"""Draws docs/state-machine.svg from the text below.
 
     docs/tools/state_machine.py > docs/state-machine.svg
+
+It is a drawing, made by hand after the rules. The rules themselves stand in crates/rules/specs/Book.antt, and nothing holds this text to them:
+who changes a rung or an act there looks here too.
 """
 
 from html import escape
 from textwrap import wrap
 
-# The rules, by what a record holds, in the order in which they are tested. An arrow names the state that follows.
+# What the picture says of itself.
+NOTE = "A drawing. The rules stand in crates/rules/specs/Book.antt; where the two differ, the book holds."
+
+# The rules in short, by what a record holds, in the book's order. An arrow names the state that follows.
 RULES = {
     "No run: a Commit": [
         "status nonzero: drop",
@@ -85,6 +91,7 @@ text { font-family: Helvetica, Arial, 'DejaVu Sans', sans-serif; fill: #1c2430; 
 .area { fill: none; stroke: #9aa7b5; stroke-dasharray: 5 4; }
 .head { font-size: 14px; font-weight: bold; }
 .rule { font-size: 12px; }
+.note { font-size: 13px; fill: #44546a; }
 """
 
 
@@ -133,8 +140,11 @@ def main():
         lines, end = column(titles, x, 540, chars)
         out += lines
         bottom = max(bottom, end)
+    out.append(text(30, bottom + 4, NOTE, "note"))
+    bottom += 20
     print(f'<svg xmlns="http://www.w3.org/2000/svg" viewBox="0 0 1260 {bottom}" width="1260" height="{bottom}">')
     print("<title>The states of a run and of a link, and what moves them</title>")
+    print(f"<desc>{escape(NOTE)}</desc>")
     print(f"<style>{STYLE}</style>")
     print('<defs><marker id="head" viewBox="0 0 10 10" refX="9" refY="5" markerWidth="8" markerHeight="8" orient="auto-start-reverse">'
           '<path d="M 0 1 L 10 5 L 0 9 z" fill="#2f5d8a"/></marker></defs>')

@@ -153,7 +153,7 @@ module _ (gs a : List ℕ) (time : ℕ) (frame fresh expected : List ℕ) (verdi
 
   -- what a well-formed frame is to the rules
   heard-by : (b : Body) → readBody gs frame ≡ b → eqb (viewOf b .sequence) 0 ≡ false → Heard gs frameCall (messageOf frame (viewOf b)) (verdict is 1)
-  unfolding messageOf commitIn view
+  unfolding commitIn view
   heard-by (body.Commit g n) e w = record {
     commit = λ z l. (record { token = n; frame = refl; reads = e; stored-as = refl }, commit-shape gs frame g n e .supported);
     request = λ o z. absurd (omega arith);

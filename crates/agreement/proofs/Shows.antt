@@ -19,7 +19,7 @@ use Rattle.record.specs.declared.Peer.{Peer}
 use Rattle.record.specs.Layout.{noRun, noLink, noPeer}
 use Rattle.rules.specs.Book.{Step}
 use Rattle.rules.specs.Book.{_is_, supersede}
-use Rattle.message.specs.View.{view, message, messageOf, commitIn}
+use Rattle.message.specs.View.{view, message, commitIn}
 use Rattle.answers.specs.Answers.{said}
 use Rattle.agreement.specs.Calls.{Call}
 use Rattle.agreement.specs.Story.{Pair, unlinked, finished, marked, Story, answered, told, cleared}
@@ -115,7 +115,7 @@ module _ (gs : List ℕ) (c : Call) (a : List ℕ) (l : story.Link) where
       RunShows (o .peer .run) (After o b d f x ks .running) (After o b d f x ks .stands) (After o b d f x ks .fresh) (After o b d f x ks .pair) (After o b d f x ks .runs)
 
   run-kept : {p : Peer} {o : Step} {b d : Bool} {f : Commit} {x : Pair} {ks : List Tally} → Does gs c p o → RunShows (p .run) b d f x ks → RunAfter o b d f x ks
-  unfolding told said view message messageOf commitIn
+  unfolding told said view message commitIn
   run-kept (quiet n E L) (no-run e) = rw n (no-run (E .free e))
   run-kept (quiet n E L) (unpaired e a b c d z) = rw n (same-shows E (unpaired e a b c d z))
   run-kept (quiet n E L) (paired e a b c d g z) = rw n (same-shows E (paired e a b c d g z))

@@ -34,7 +34,7 @@ use Rattle.table.proofs.Kept.{sound-form, found-only}
 use Rattle.rules.specs.Book.{_is_, hasRun, factory, Step, t0Due, t1Due, expired}
 use Rattle.rules.specs.Asked.{NoRun}
 use Rattle.message.specs.declared.View.{View}
-use Rattle.message.specs.View.{viewOf, view, storedToken, commitIn, messageOf, message}
+use Rattle.message.specs.View.{viewOf, view, storedToken, commitIn, message}
 use Rattle.rule_laws.proofs.Keeps.{Place, Lists, Stock, stock-form, Heard, Kept, Keeps, kept-free, run-used, link-used, place-of}
 use Rattle.rule_laws.proofs.Sound.{Handed, frame-keeps, begin-keeps, expire-keeps}
 use Rattle.rule_laws.proofs.Slots.{start-refused, frame-unseated}
@@ -225,7 +225,7 @@ module _ (token : List ℕ) (n : ℕ) (e : length token ≡ n) (h : n ≤ 256) w
   token-bytes b = bytes-append token (replicate (256 - length token) 0) b (bytes-zeros (256 - length token))
 
 pub view-heard : (gs frame : List ℕ) → Bytes frame → Heard gs (message gs frame)
-unfolding message messageOf tokenOf
+unfolding message tokenOf
 view-heard gs frame b =
     let v = view gs frame in
     let w = viewed gs frame b in
@@ -325,7 +325,7 @@ kill-good t a f b la ba e = good-of t a f _ (kill-entered t a (entry t a) f refl
 pub receive-good : (t a : List ℕ) (time : ℕ) (frame fresh expected : List ℕ) (verdict : ℕ) (f : Found) → Bytes t → length a ≡ 6 → Bytes a → time < 2 ^ 32
     → Bytes frame → Bytes fresh → Bytes expected → verdict < 2 ^ 8
     → frameTurn (entry t a) t frame fresh expected verdict ≡ Go f → Good t a f (frameStep (decodeTable t) f a time frame fresh expected verdict)
-unfolding frameStep message messageOf
+unfolding frameStep message
 receive-good t a time frame fresh expected verdict f b la ba ht br bf be hv e =
     let w = frame-entered t a frame fresh expected verdict (entry t a) f refl e in
     let s = entered-sound t a f (w .0) in

@@ -29,7 +29,7 @@ use Rattle.table.proofs.Laws.{found-below}
 use Rattle.rules.specs.declared.Frame.{Frame}
 use Rattle.rules.specs.declared.Frames.{Frames}
 use Rattle.rules.specs.Book.{Step}
-use Rattle.message.specs.View.{message, messageOf}
+use Rattle.message.specs.View.{message}
 use Rattle.rule_laws.proofs.Keeps.{Kept, parts}
 use Rattle.rule_laws.proofs.Tells.{Told, a-commit, a-confirm, an-answer, a-request, a-refusal, Tells, tell-none, tell-one, tell-two, Truthful, States, frame-tells, start-tells, clock-tells}
 use Rattle.answers.specs.declared.Refusal.{Refusal}
@@ -245,7 +245,7 @@ initiate-writes t a time fresh b la ba ht bf =
 pub receive-writes : (t a : List ℕ) (time : ℕ) (frame fresh expected : List ℕ) (verdict : ℕ) → Bytes t → length a ≡ 6 → Bytes a → time < 2 ^ 32
     → Bytes frame → Bytes fresh → Bytes expected → verdict < 2 ^ 8
     → Writables (receives t a time frame fresh expected verdict .table) a (receives t a time frame fresh expected verdict .answer .frames)
-unfolding receives frameStep message messageOf
+unfolding receives frameStep message
 receive-writes t a time frame fresh expected verdict b la ba ht br bf be hv =
     turn-writes _ _ t a
     (λ f e.

@@ -16,7 +16,7 @@ use Rattle.record.specs.Layout.{decodePeer}
 use Rattle.record.specs.declared.Link.{Link}
 use Rattle.record.proofs.Windows.{link-peer-law}
 use Rattle.rules.specs.Book.{holds, linkedWith}
-use Rattle.rules.specs.declared.Message.{Message}
+use Rattle.rules.specs.Message.{Message}
 
 -- a number against one that a call read
 pub like-read : (x y r : ℕ) → r ≡ y → x ≡ r → eqb x y ≡ true
@@ -36,10 +36,10 @@ module _ (l : Link) (m : Message) (finished group : ℕ) (x : Bool) where
   other-link e z g d = rw (ne-eqb (l .finished) 0 (λ q. z (e ∙ q)), ne-eqb (l .group) (m .group) (λ q. d (g ∙ q))) refl
 
   pub this-link :
-      finished ≡ l .finished → (finished ≡ 0 → ⊥) → group ≡ l .group → group ≡ m .group →
-      x ≡ same (part (m .commit) 0 (scalarLength (m .group))) (part (l .peer) 0 (scalarLength (m .group))) → x ≡ linkedWith l m
+      (heard : List ℕ) → finished ≡ l .finished → (finished ≡ 0 → ⊥) → group ≡ l .group → group ≡ m .group → heard ≡ m .commit →
+      x ≡ same (part heard 0 (scalarLength (m .group))) (part (l .peer) 0 (scalarLength (m .group))) → x ≡ linkedWith l m
   unfolding linkedWith
-  this-link e z g d q = rw (ne-eqb (l .finished) 0 (λ q. z (e ∙ q)), eq-eqb (l .group) (m .group) (sym g ∙ d)) q
+  this-link heard e z g d c q = rw (ne-eqb (l .finished) 0 (λ q. z (e ∙ q)), eq-eqb (l .group) (m .group) (sym g ∙ d), ← c) q
 
 pub same-scalar-law :
     (s heard : List ℕ) (group n : ℕ) (x : Bool) → n ≡ scalarLength group → x ≡ same (part heard 0 n) (part s 720 n) →
@@ -55,8 +55,10 @@ unasked crowded wrong e = rw (not-true crowded e) refl
 pub asked : (crowded wrong : Bool) → not crowded ≡ false → wrong ≡ (crowded && wrong)
 asked crowded wrong e = rw (not-false crowded e) refl
 
-pub wrong-law : (crowded like : Bool) (token expected : List ℕ) → not crowded ≡ false → like ≡ same token expected → not like ≡ (crowded && not (same token expected))
-wrong-law crowded like token expected e q = ap not q ∙ asked crowded (not (same token expected)) e
+pub wrong-law :
+    (crowded like : Bool) (n : ℕ) (token heard expected : List ℕ) → not crowded ≡ false → heard ≡ token → like ≡ same (take n heard) expected →
+    not like ≡ (crowded && not (same (take n token) expected))
+wrong-law crowded like n token heard expected e h q = ap not (q ∙ ap (λ (x : List ℕ). same (take n x) expected) h) ∙ asked crowded (not (same (take n token) expected)) e
 
 pub prefix-count : (n : ℕ) (token : List ℕ) → n ≤ 256 → length token ≡ 256 → n ≡ length (take n token)
 prefix-count n token h e = sym (length-take-le n token (omega arith))

@@ -7,8 +7,10 @@ ghost use Rattle.octets.specs.Octets.{part, same};
 ghost use Rattle.groups.specs.Groups.{width, scalarLength, freshFor};
 ghost use Rattle.record.specs.Layout.{decodePeer, recordSize};
 ghost use Rattle.rules.specs.Book.{linkedWith, commitIdle, commitCommitted, commitConfirmed, confirmCommitted, confirmConfirmed, confirmLinked, commitAct, confirmAct, frameAct};
+ghost use Rattle.message.specs.View.{messageOf};
 ghost use Rattle.rules.specs.Given.{terms, call, Stocked, Ready};
 use groups::COMMIT;
+use message::View;
 use record::LINK;
 use record::LINK_PEER;
 use record::RUN;
@@ -16,7 +18,6 @@ use record::RUN_OWN;
 use record::Settings;
 use rules::Act;
 use rules::Given;
-use rules::Message;
 
 // The scalar of a group is that of the link's peer.
 fn same_scalar(s: &[u8], heard: [u8; COMMIT], group: u16) -> bool
@@ -28,65 +29,66 @@ fn same_scalar(s: &[u8], heard: [u8; COMMIT], group: u16) -> bool
 }
 
 // "finished link with that group and peer scalar"
-fn is_linked(s: &[u8], m: Message) -> bool
-    requires { ⌜ length (now s) ≡ recordSize width ⌝ }
-    ensures { λ x. ⌜ x ≡ linkedWith (decodePeer width (now (s .entry)) .link) m ⌝ }
+fn is_linked(s: &[u8], v: View, body: &[u8]) -> bool
+    requires { ⌜ (length (now s) ≡ recordSize width) × (v .toklen ≤ 256) ⌝ }
+    ensures { λ x. ⌜ x ≡ linkedWith (decodePeer width (now (s .entry)) .link) (messageOf (now (body .entry)) v) ⌝ }
 {
     let finished = record::finished_of(s);
     if finished == 0 {
         return false;
     }
     let our_group = record::link_group_of(s);
-    let group = m.group;
+    let group = v.group;
     if our_group != group {
         return false;
     }
-    let heard = m.commit;
+    let heard = message::commit(body, v);
     same_scalar(s, heard, group)
 }
 
 // "wrong token", Open being at or above the threshold
-fn is_wrong(crowded: bool, token: [u8; 256], toklen: u16, expected: [u8; 32]) -> bool
-    requires { ⌜ toklen ≤ 256 ⌝ }
-    ensures { λ x. ⌜ x ≡ (crowded && not (same (take toklen token) expected)) ⌝ }
+fn is_wrong(crowded: bool, v: View, body: &[u8], expected: [u8; 32]) -> bool
+    requires { ⌜ v .toklen ≤ 256 ⌝ }
+    ensures { λ x. ⌜ x ≡ (crowded && not (same (take (v .toklen) (messageOf (now (body .entry)) v .token)) expected)) ⌝ }
 {
     if !crowded {
         return false;
     }
-    let n = toklen as usize;
+    let token = message::token(body, v);
+    let n = v.toklen as usize;
     let same = octets::is_same(&token[..n], &expected[..]);
     !same
 }
 
 // "equal to our stock's"
-fn equals_fresh(m: Message, groups: &[u16], fresh: &[u8]) -> bool
-    requires { ⌜ Stocked (now groups) (now fresh) ⌝ }
-    ensures { λ x. ⌜ x ≡ same (m .commit) (freshFor (now (groups .entry)) (now (fresh .entry)) (m .group)) ⌝ }
+fn equals_fresh(v: View, body: &[u8], groups: &[u16], fresh: &[u8]) -> bool
+    requires { ⌜ Stocked (now groups) (now fresh) × (v .toklen ≤ 256) ⌝ }
+    ensures { λ x. ⌜ x ≡ same (messageOf (now (body .entry)) v .commit) (freshFor (now (groups .entry)) (now (fresh .entry)) (v .group)) ⌝ }
 {
-    let heard = m.commit;
-    let own = groups::fresh_for(groups, fresh, m.group);
+    let heard = message::commit(body, v);
+    let own = groups::fresh_for(groups, fresh, v.group);
     octets::is_same(&heard[..], &own[..])
 }
 
 // "equal to our commit"
-fn equals_own(s: &[u8], m: Message) -> bool
-    requires { ⌜ length (now s) ≡ recordSize width ⌝ }
-    ensures { λ x. ⌜ x ≡ same (m .commit) (decodePeer width (now (s .entry)) .run .own) ⌝ }
+fn equals_own(s: &[u8], v: View, body: &[u8]) -> bool
+    requires { ⌜ (length (now s) ≡ recordSize width) × (v .toklen ≤ 256) ⌝ }
+    ensures { λ x. ⌜ x ≡ same (messageOf (now (body .entry)) v .commit) (decodePeer width (now (s .entry)) .run .own) ⌝ }
 {
-    let heard = m.commit;
+    let heard = message::commit(body, v);
     let a = RUN + RUN_OWN;
     let e = a + COMMIT;
     octets::is_same(&heard[..], &s[a..e])
 }
 
 // "Commit, no run, in this order"
-pub fn commit_idle(s: &[u8], g: Given, m: Message, groups: &[u16], fresh: &[u8]) -> Act
-    requires { ⌜ Ready (now s) (now groups) (now fresh) m ⌝ }
-    ensures { λ r. ⌜ r ≡ commitIdle (terms g (now (groups .entry))) (call g (now (fresh .entry))) (decodePeer width (now (s .entry))) m ⌝ }
+pub fn commit_idle(s: &[u8], g: Given, v: View, body: &[u8], groups: &[u16], fresh: &[u8]) -> Act
+    requires { ⌜ Ready (now s) (now groups) (now fresh) (messageOf (now body) v) ⌝ }
+    ensures { λ r. ⌜ r ≡ commitIdle (terms g (now (groups .entry))) (call g (now (fresh .entry))) (decodePeer width (now (s .entry))) (messageOf (now (body .entry)) v) ⌝ }
 {
-    let status = m.status;
-    let listed = m.listed;
-    let toklen = m.toklen;
+    let status = v.status;
+    let listed = v.listed;
+    let toklen = v.toklen;
     let crowded = g.crowded;
     let full = g.full;
     let verified = g.verified;
@@ -96,19 +98,18 @@ pub fn commit_idle(s: &[u8], g: Given, m: Message, groups: &[u16], fresh: &[u8])
     if !listed {
         return Act::RefuseGroup;
     }
-    if is_linked(s, m) {
+    if is_linked(s, v, body) {
         return Act::Drop;
     }
     let lacks = crowded & (toklen == 0);
     if lacks {
         return Act::AskToken;
     }
-    let token = m.token;
     let expected = g.expected;
-    if is_wrong(crowded, token, toklen, expected) {
+    if is_wrong(crowded, v, body, expected) {
         return Act::Drop;
     }
-    if equals_fresh(m, groups, fresh) {
+    if equals_fresh(v, body, groups, fresh) {
         return Act::Drop;
     }
     if !verified {
@@ -121,13 +122,20 @@ pub fn commit_idle(s: &[u8], g: Given, m: Message, groups: &[u16], fresh: &[u8])
 }
 
 // "Commit in Committed"
-pub fn commit_committed(s: &[u8], g: Given, m: Message, groups: &[u16], fresh: &[u8]) -> Act
-    requires { ⌜ Ready (now s) (now groups) (now fresh) m ⌝ }
-    ensures { λ r. ⌜ r ≡ commitCommitted (terms g (now (groups .entry))) (call g (now (fresh .entry))) (decodePeer width (now (s .entry))) m ⌝ }
+pub fn commit_committed(
+    s: &[u8],
+    g: Given,
+    v: View,
+    body: &[u8],
+    groups: &[u16],
+    fresh: &[u8],
+) -> Act
+    requires { ⌜ Ready (now s) (now groups) (now fresh) (messageOf (now body) v) ⌝ }
+    ensures { λ r. ⌜ r ≡ commitCommitted (terms g (now (groups .entry))) (call g (now (fresh .entry))) (decodePeer width (now (s .entry))) (messageOf (now (body .entry)) v) ⌝ }
 {
-    let status = m.status;
-    let group = m.group;
-    let listed = m.listed;
+    let status = v.status;
+    let group = v.group;
+    let listed = v.listed;
     let verified = g.verified;
     let own = g.own;
     let address = g.address;
@@ -157,12 +165,12 @@ pub fn commit_committed(s: &[u8], g: Given, m: Message, groups: &[u16], fresh: &
         if !verified {
             return Act::Drop;
         }
-        if equals_fresh(m, groups, fresh) {
+        if equals_fresh(v, body, groups, fresh) {
             return Act::Drop;
         }
         return Act::AnswerCommit;
     }
-    if equals_own(s, m) {
+    if equals_own(s, v, body) {
         return Act::Drop;
     }
     if !verified {
@@ -172,12 +180,19 @@ pub fn commit_committed(s: &[u8], g: Given, m: Message, groups: &[u16], fresh: &
 }
 
 // "Confirmed. Commit"
-pub fn commit_confirmed(s: &[u8], g: Given, m: Message, groups: &[u16], fresh: &[u8]) -> Act
-    requires { ⌜ Ready (now s) (now groups) (now fresh) m ⌝ }
-    ensures { λ r. ⌜ r ≡ commitConfirmed (terms g (now (groups .entry))) (decodePeer width (now (s .entry))) m ⌝ }
+pub fn commit_confirmed(
+    s: &[u8],
+    g: Given,
+    v: View,
+    body: &[u8],
+    groups: &[u16],
+    fresh: &[u8],
+) -> Act
+    requires { ⌜ Ready (now s) (now groups) (now fresh) (messageOf (now body) v) ⌝ }
+    ensures { λ r. ⌜ r ≡ commitConfirmed (terms g (now (groups .entry))) (decodePeer width (now (s .entry))) (messageOf (now (body .entry)) v) ⌝ }
 {
-    let status = m.status;
-    let group = m.group;
+    let status = v.status;
+    let group = v.group;
     if status != 0 {
         return Act::Drop;
     }
@@ -193,11 +208,18 @@ pub fn commit_confirmed(s: &[u8], g: Given, m: Message, groups: &[u16], fresh: &
 }
 
 // "Confirm in Committed"
-pub fn confirm_committed(s: &[u8], g: Given, m: Message, groups: &[u16], fresh: &[u8]) -> Act
-    requires { ⌜ Ready (now s) (now groups) (now fresh) m ⌝ }
-    ensures { λ r. ⌜ r ≡ confirmCommitted m ⌝ }
+pub fn confirm_committed(
+    s: &[u8],
+    g: Given,
+    v: View,
+    body: &[u8],
+    groups: &[u16],
+    fresh: &[u8],
+) -> Act
+    requires { ⌜ Ready (now s) (now groups) (now fresh) (messageOf (now body) v) ⌝ }
+    ensures { λ r. ⌜ r ≡ confirmCommitted (messageOf (now (body .entry)) v) ⌝ }
 {
-    let status = m.status;
+    let status = v.status;
     if status != 0 {
         return Act::Drop;
     }
@@ -205,11 +227,18 @@ pub fn confirm_committed(s: &[u8], g: Given, m: Message, groups: &[u16], fresh: 
 }
 
 // "Confirmed. Confirm"
-pub fn confirm_confirmed(s: &[u8], g: Given, m: Message, groups: &[u16], fresh: &[u8]) -> Act
-    requires { ⌜ Ready (now s) (now groups) (now fresh) m ⌝ }
-    ensures { λ r. ⌜ r ≡ confirmConfirmed (call g (now (fresh .entry))) m ⌝ }
+pub fn confirm_confirmed(
+    s: &[u8],
+    g: Given,
+    v: View,
+    body: &[u8],
+    groups: &[u16],
+    fresh: &[u8],
+) -> Act
+    requires { ⌜ Ready (now s) (now groups) (now fresh) (messageOf (now body) v) ⌝ }
+    ensures { λ r. ⌜ r ≡ confirmConfirmed (call g (now (fresh .entry))) (messageOf (now (body .entry)) v) ⌝ }
 {
-    let status = m.status;
+    let status = v.status;
     let verified = g.verified;
     if status != 0 {
         return Act::Drop;
@@ -221,12 +250,12 @@ pub fn confirm_confirmed(s: &[u8], g: Given, m: Message, groups: &[u16], fresh: 
 }
 
 // "Link, no run, Confirm"
-pub fn confirm_linked(s: &[u8], g: Given, m: Message, groups: &[u16], fresh: &[u8]) -> Act
-    requires { ⌜ Ready (now s) (now groups) (now fresh) m ⌝ }
-    ensures { λ r. ⌜ r ≡ confirmLinked (terms g (now (groups .entry))) (call g (now (fresh .entry))) (decodePeer width (now (s .entry))) m ⌝ }
+pub fn confirm_linked(s: &[u8], g: Given, v: View, body: &[u8], groups: &[u16], fresh: &[u8]) -> Act
+    requires { ⌜ Ready (now s) (now groups) (now fresh) (messageOf (now body) v) ⌝ }
+    ensures { λ r. ⌜ r ≡ confirmLinked (terms g (now (groups .entry))) (call g (now (fresh .entry))) (decodePeer width (now (s .entry))) (messageOf (now (body .entry)) v) ⌝ }
 {
-    let status = m.status;
-    let counter = m.counter;
+    let status = v.status;
+    let counter = v.counter;
     let verified = g.verified;
     if status != 0 {
         return Act::Drop;
@@ -249,47 +278,47 @@ pub fn confirm_linked(s: &[u8], g: Given, m: Message, groups: &[u16], fresh: &[u
 }
 
 // A Commit: "a run takes all frames while it lasts"
-pub fn commit(s: &[u8], g: Given, m: Message, groups: &[u16], fresh: &[u8]) -> Act
-    requires { ⌜ Ready (now s) (now groups) (now fresh) m ⌝ }
-    ensures { λ r. ⌜ r ≡ commitAct (terms g (now (groups .entry))) (call g (now (fresh .entry))) (decodePeer width (now (s .entry))) m ⌝ }
+pub fn commit(s: &[u8], g: Given, v: View, body: &[u8], groups: &[u16], fresh: &[u8]) -> Act
+    requires { ⌜ Ready (now s) (now groups) (now fresh) (messageOf (now body) v) ⌝ }
+    ensures { λ r. ⌜ r ≡ commitAct (terms g (now (groups .entry))) (call g (now (fresh .entry))) (decodePeer width (now (s .entry))) (messageOf (now (body .entry)) v) ⌝ }
 {
     let state = record::state_of(s);
     if state == 1 {
-        return commit_committed(s, g, m, groups, fresh);
+        return commit_committed(s, g, v, body, groups, fresh);
     }
     if state == 2 {
-        return commit_confirmed(s, g, m, groups, fresh);
+        return commit_confirmed(s, g, v, body, groups, fresh);
     }
-    commit_idle(s, g, m, groups, fresh)
+    commit_idle(s, g, v, body, groups, fresh)
 }
 
 // A Confirm: "a run takes all frames while it lasts. Confirm with neither: drop."
-pub fn confirm(s: &[u8], g: Given, m: Message, groups: &[u16], fresh: &[u8]) -> Act
-    requires { ⌜ Ready (now s) (now groups) (now fresh) m ⌝ }
-    ensures { λ r. ⌜ r ≡ confirmAct (terms g (now (groups .entry))) (call g (now (fresh .entry))) (decodePeer width (now (s .entry))) m ⌝ }
+pub fn confirm(s: &[u8], g: Given, v: View, body: &[u8], groups: &[u16], fresh: &[u8]) -> Act
+    requires { ⌜ Ready (now s) (now groups) (now fresh) (messageOf (now body) v) ⌝ }
+    ensures { λ r. ⌜ r ≡ confirmAct (terms g (now (groups .entry))) (call g (now (fresh .entry))) (decodePeer width (now (s .entry))) (messageOf (now (body .entry)) v) ⌝ }
 {
     let state = record::state_of(s);
     if state == 1 {
-        return confirm_committed(s, g, m, groups, fresh);
+        return confirm_committed(s, g, v, body, groups, fresh);
     }
     if state == 2 {
-        return confirm_confirmed(s, g, m, groups, fresh);
+        return confirm_confirmed(s, g, v, body, groups, fresh);
     }
     let finished = record::finished_of(s);
     if finished != 0 {
-        return confirm_linked(s, g, m, groups, fresh);
+        return confirm_linked(s, g, v, body, groups, fresh);
     }
     Act::Drop
 }
 
 // What a frame calls for
-pub fn frame(s: &[u8], g: Given, m: Message, groups: &[u16], fresh: &[u8]) -> Act
-    requires { ⌜ Ready (now s) (now groups) (now fresh) m ⌝ }
-    ensures { λ r. ⌜ r ≡ frameAct (terms g (now (groups .entry))) (call g (now (fresh .entry))) (decodePeer width (now (s .entry))) m ⌝ }
+pub fn frame(s: &[u8], g: Given, v: View, body: &[u8], groups: &[u16], fresh: &[u8]) -> Act
+    requires { ⌜ Ready (now s) (now groups) (now fresh) (messageOf (now body) v) ⌝ }
+    ensures { λ r. ⌜ r ≡ frameAct (terms g (now (groups .entry))) (call g (now (fresh .entry))) (decodePeer width (now (s .entry))) (messageOf (now (body .entry)) v) ⌝ }
 {
-    let sequence = m.sequence;
+    let sequence = v.sequence;
     if sequence == 1 {
-        return commit(s, g, m, groups, fresh);
+        return commit(s, g, v, body, groups, fresh);
     }
-    confirm(s, g, m, groups, fresh)
+    confirm(s, g, v, body, groups, fresh)
 }

@@ -24,6 +24,6 @@ unfolding octets.part octets.num octets.oct octets.allZero octets.same scan.allB
     book.startAct book.commitIdle book.confirmLinked book.clockAct book.commitAct book.confirmAct book.frameAct book.delay book.setT0
     book.sending book.answering book.settled book.abandoning book.retransmitting book.dropping book.forming book.startedRun book.starting
     book.answeringCommit book.repeatingCommit book.confirmingAgain book.hearingAgain book.perform book.onFrame book.onClock book.onStart
-    views.view views.commitIn views.messageOf views.message calls.crowded calls.full calls.startStep calls.admitFrame calls.frameStep
+    views.view views.commitIn views.message calls.crowded calls.full calls.startStep calls.admitFrame calls.frameStep
     calls.dueSlot calls.clockStep edge.named edge.answer edge.holds edge.allHold
 edges-hold = refl

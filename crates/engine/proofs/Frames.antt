@@ -21,7 +21,7 @@ use Rattle.table.specs.declared.Entrance.{Entrance}
 use Rattle.table.specs.declared.Entry.{Entry}
 use Rattle.table.specs.declared.Entry.the-variants as entry-is
 use Rattle.rules.specs.declared.Given.{Given}
-use Rattle.rules.specs.declared.Message.{Message}
+use Rattle.rules.specs.Message.{Message}
 use Rattle.rules.specs.declared.Said.{Said}
 use Rattle.rules.specs.Book.{_is_, Terms, Call, Step, onFrame}
 use Rattle.rules.specs.Given.{terms, call}
@@ -231,20 +231,16 @@ module _ (t : List ℕ) (h : Header) (f : Found) (H : Held t h f) (g : Given) (B
       ∙ (λ i. answersOutside (onFrame (T i) (call g fresh) (sym (look-none e) i) m) (g .address)))
 
 -- the step of the call
-pub frame-is : (t : List ℕ) (f : Found) (a : List ℕ) (time : ℕ) (frame fresh expected token : List ℕ) (verdict : ℕ) (h : Header) (w : View) (m : Message) (g : Given)
-    → h ≡ decodeTable t .header → w ≡ view (groupsOf h) frame → m ≡ messageOf frame w → token ≡ expected → g ≡ givenBy h a time token (verdict is 1)
-    → onFrame (termsOf (decodeTable t) f) (call g fresh) (lookBy (decodeTable t) f) m ≡ frameStep (decodeTable t) f a time frame fresh expected verdict
+pub frame-is : (t : List ℕ) (f : Found) (a : List ℕ) (time : ℕ) (frame fresh expected token : List ℕ) (verdict : ℕ) (h : Header) (w : View) (g : Given)
+    → h ≡ decodeTable t .header → w ≡ view (groupsOf h) frame → token ≡ expected → g ≡ givenBy h a time token (verdict is 1)
+    → onFrame (termsOf (decodeTable t) f) (call g fresh) (lookBy (decodeTable t) f) (messageOf frame w) ≡ frameStep (decodeTable t) f a time frame fresh expected verdict
 unfolding frameStep message
-frame-is t f a time frame fresh expected token verdict h w m g eh ew em et eg =
-    let M : m ≡ messageOf frame (view (groupsOf (decodeTable t .header)) frame) = em ∙ ap (messageOf frame) (ew ∙ ap (λ (x : Header). view (groupsOf x) frame) eh) in
+frame-is t f a time frame fresh expected token verdict h w g eh ew et eg =
+    let W : w ≡ view (groupsOf (decodeTable t .header)) frame = ew ∙ ap (λ (x : Header). view (groupsOf x) frame) eh in
     let C : call g fresh ≡ brings a time fresh expected (verdict is 1) = ap (λ (x : Given). call x fresh) eg ∙ ap (λ (x : List ℕ). brings a time fresh x (verdict is 1)) et in
-    λ i. onFrame (termsOf (decodeTable t) f) (C i) (lookBy (decodeTable t) f) (M i)
+    λ i. onFrame (termsOf (decodeTable t) f) (C i) (lookBy (decodeTable t) f) (messageOf frame (W i))
 
--- what the rule asks of what it is handed
-pub heard-short : (frame : List ℕ) (v : View) (m : Message) → m ≡ messageOf frame v → v .toklen ≤ 256 → m .toklen ≤ 256
-unfolding messageOf
-heard-short frame v m e h = subst (λ (x : Message). x .toklen ≤ 256) (sym e) h
-
+-- what a call brings
 pub given-brought : (h : Header) (a : List ℕ) (time : ℕ) (expected : List ℕ) (v : Bool) (g : Given) → g ≡ givenBy h a time expected v → Brought g h
 given-brought h a time expected v g e = subst (λ (x : Given). Brought x h) (sym e) (brought h a time expected v)
 
@@ -262,12 +258,12 @@ module _ (t a : List ℕ) (time : ℕ) (frame fresh expected : List ℕ) (verdic
   unfolding receives
   receive-refused c q z = turned-refused _ _ t a (A .turn) turn-is r c q z
 
-  pub receive-went : (f : Found) (m : Message) (token : List ℕ) (g : Given) (u : List ℕ) → A .turn ≡ Go f → m ≡ messageOf frame (A .view) → token ≡ expected → g ≡ givenBy (e .header) a time token (verdict is 1)
-      → Leaves r u (finishes t f (onFrame (termsOf (decodeTable t) f) (call g fresh) (lookBy (decodeTable t) f) m) (g .address)) → Leaves r u (receives t a time frame fresh expected verdict)
+  pub receive-went : (f : Found) (token : List ℕ) (g : Given) (u : List ℕ) → A .turn ≡ Go f → token ≡ expected → g ≡ givenBy (e .header) a time token (verdict is 1)
+      → Leaves r u (finishes t f (onFrame (termsOf (decodeTable t) f) (call g fresh) (lookBy (decodeTable t) f) (messageOf frame (A .view))) (g .address)) → Leaves r u (receives t a time frame fresh expected verdict)
   unfolding receives
-  receive-went f m token g u q em et eg l =
+  receive-went f token g u q et eg l =
       let G = receive-goes t a frame fresh expected verdict e E A K f q in
-      let S = frame-is t f a time frame fresh expected token verdict (e .header) (A .view) m g (G .held .header) (K .view f q) em et eg in
+      let S = frame-is t f a time frame fresh expected token verdict (e .header) (A .view) g (G .held .header) (K .view f q) et eg in
       let L : Leaves r u (finishes t f (frameStep (decodeTable t) f a time frame fresh expected verdict) a) = subst (λ (x : List ℕ). Leaves r u (finishes t f (frameStep (decodeTable t) f a time frame fresh expected verdict) x)) (ap (λ (x : Given). x .address) eg)
       (subst (λ (x : Step). Leaves r u (finishes t f x (g .address))) S l) in
       turned-go _ _ t a (A .turn) turn-is r f _ u q refl L

@@ -29,7 +29,7 @@ use Rattle.table.specs.declared.Entry.the-variants as entry-is
 use Rattle.table.proofs.Laws.{sound-header, sound-peer, sound-whole, peers-held, slots-law, entry-at, entry-absent}
 use Rattle.table.proofs.Fit.{fit-slot, fit-decoded}
 use Rattle.table.proofs.Octets.{window-law}
-use Rattle.rules.specs.declared.Message.{Message}
+use Rattle.rules.specs.Message.{Message}
 use Rattle.rules.specs.Given.{Whole, Stocked, Ready}
 use Rattle.answers.specs.Answers.{Seated, seating}
 use Rattle.answers.proofs.Laws.{Entered, old, new, entered-seated, seated-ready}

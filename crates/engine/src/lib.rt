@@ -12,6 +12,7 @@ ghost use Rattle.soundness.specs.Soundness.{headerOk};
 ghost use Rattle.table.specs.Table.{size, decodeTable, slot, lookBy, Sized};
 ghost use Rattle.rules.specs.Book.{expired, onStart, onFrame, onClock};
 ghost use Rattle.rules.specs.Given.{terms, call};
+ghost use Rattle.message.specs.View.{messageOf};
 ghost use Rattle.answers.specs.Answers.{Leaves, finishes};
 ghost use Rattle.calls.specs.Calls.{termsOf, crowded, initializes, admitStart, startTurn, startStep, initiates, killStep, kills, receives, dueSlot, clockStep, expires};
 ghost use Rattle.engine.specs.InSlot.{Held, Met, Stocks, Listing, givenBy, slotless, Brought, refusedFrame, AdmitsFrame, TakesFrame, DoesAt, answersOutside};
@@ -26,7 +27,6 @@ use record::RECORD;
 use record::Settings;
 use rules::Frames;
 use rules::Given;
-use rules::Message;
 use rules::Said;
 use table::Entry;
 
@@ -290,27 +290,27 @@ fn token_of(expected: &[u8]) -> [u8; 32]
 }
 
 // The rule for a frame, in a slot.
-fn frame_at(t: &mut [u8], k: usize, h: Header, g: Given, m: Message, fresh: &[u8]) -> Said
-    requires { ⌜ Held (now t) h (At k) × (Stocks h (now fresh) × (m .toklen ≤ 256)) ⌝ }
-    ensures { λ x. ⌜ DoesAt x (now (t .exit)) (now (t .entry)) k (onFrame (terms g (groupsOf h)) (call g (now (fresh .entry))) (slot (decodeTable (now (t .entry))) k) m) ⌝ }
+fn frame_at(t: &mut [u8], k: usize, h: Header, g: Given, v: View, body: &[u8], fresh: &[u8]) -> Said
+    requires { ⌜ Held (now t) h (At k) × (Stocks h (now fresh) × (v .toklen ≤ 256)) ⌝ }
+    ensures { λ x. ⌜ DoesAt x (now (t .exit)) (now (t .entry)) k (onFrame (terms g (groupsOf h)) (call g (now (fresh .entry))) (slot (decodeTable (now (t .entry))) k) (messageOf (now (body .entry)) v)) ⌝ }
 {
     let list = h.groups;
     let n = h.count as usize;
     let a = HEADER + RECORD * k;
     let e = a + RECORD;
-    machine::on_frame(&mut t[a..e], g, m, &list[..n], fresh)
+    machine::on_frame(&mut t[a..e], g, v, body, &list[..n], fresh)
 }
 
 // No slot is free for a new peer: the rule works on a free record outside the table.
-fn hear_outside(h: Header, g: Given, m: Message, fresh: &[u8]) -> Answer
-    requires { ⌜ Stocks h (now fresh) × (m .toklen ≤ 256) ⌝ }
-    ensures { λ r. ⌜ r ≡ answersOutside (onFrame (terms g (groupsOf h)) (call g (now (fresh .entry))) noPeer m) (g .address) ⌝ }
+fn hear_outside(h: Header, g: Given, v: View, body: &[u8], fresh: &[u8]) -> Answer
+    requires { ⌜ Stocks h (now fresh) × (v .toklen ≤ 256) ⌝ }
+    ensures { λ r. ⌜ r ≡ answersOutside (onFrame (terms g (groupsOf h)) (call g (now (fresh .entry))) noPeer (messageOf (now (body .entry)) v)) (g .address) ⌝ }
 {
     let list = h.groups;
     let n = h.count as usize;
     let address = g.address;
     let mut s = [0u8; RECORD];
-    let said = machine::on_frame(&mut s[..], g, m, &list[..n], fresh);
+    let said = machine::on_frame(&mut s[..], g, v, body, &list[..n], fresh);
     if said.refused {
         return answers::refuse_with(Refusal::Full);
     }
@@ -318,21 +318,21 @@ fn hear_outside(h: Header, g: Given, m: Message, fresh: &[u8]) -> Answer
 }
 
 // A frame that causes 2 to 7 do not refuse. Cause 9.
-fn hear(t: &mut [u8], h: Header, f: Found, g: Given, m: Message, fresh: &[u8]) -> Answer
-    requires { ⌜ Held (now t) h f × (Stocks h (now fresh) × (Brought g h × (m .toklen ≤ 256))) ⌝ }
-    ensures { λ r. ⌜ Leaves r (now (t .exit)) (finishes (now (t .entry)) f (onFrame (termsOf (decodeTable (now (t .entry))) f) (call g (now (fresh .entry))) (lookBy (decodeTable (now (t .entry))) f) m) (g .address)) ⌝ }
+fn hear(t: &mut [u8], h: Header, f: Found, g: Given, v: View, body: &[u8], fresh: &[u8]) -> Answer
+    requires { ⌜ Held (now t) h f × (Stocks h (now fresh) × (Brought g h × (v .toklen ≤ 256))) ⌝ }
+    ensures { λ r. ⌜ Leaves r (now (t .exit)) (finishes (now (t .entry)) f (onFrame (termsOf (decodeTable (now (t .entry))) f) (call g (now (fresh .entry))) (lookBy (decodeTable (now (t .entry))) f) (messageOf (now (body .entry)) v)) (g .address)) ⌝ }
 {
     let n = h.slots as usize;
     match answers::seat_of(t, n, f) {
         Found::At(k) => {
             let was = table::standing_of(t, k);
-            let said = frame_at(t, k, h, g, m, fresh);
+            let said = frame_at(t, k, h, g, v, body, fresh);
             let address = g.address;
             answers::finish_at(t, k, h, was, said, address)
         }
         Found::Nothing => {
             let slotless = without_slot(g);
-            hear_outside(h, slotless, m, fresh)
+            hear_outside(h, slotless, v, body, fresh)
         }
     }
 }
@@ -358,10 +358,9 @@ pub fn receive(
     match turn {
         Turn::Refused(c) => answers::refuse_with(c),
         Turn::Go(f) => {
-            let m = message::heard(body, view);
             let token = token_of(expected);
             let g = given_of(h, address, time, token, verdict == 1);
-            hear(t, h, f, g, m, fresh)
+            hear(t, h, f, g, view, body, fresh)
         }
     }
 }

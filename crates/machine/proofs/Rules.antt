@@ -10,7 +10,7 @@ use Rattle.octets.specs.Scan.{if_then_else_}
 use Rattle.groups.specs.Groups.{width, freshAt}
 use Rattle.record.specs.Layout.{decodePeer}
 use Rattle.record.specs.declared.Peer.{Peer}
-use Rattle.rules.specs.declared.Message.{Message}
+use Rattle.rules.specs.Message.{Message}
 use Rattle.rules.specs.declared.Given.{Given}
 use Rattle.rules.specs.declared.Act.{Act}
 use Rattle.rules.specs.declared.Act.the-variants as act

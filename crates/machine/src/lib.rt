@@ -3,20 +3,21 @@ ghost use mathlib.Core.Path.{_≡_};
 ghost use mathlib.Core.List.{[]};
 ghost use Rattle.groups.specs.Groups.{width};
 ghost use Rattle.record.specs.Layout.{decodePeer};
+ghost use Rattle.message.specs.View.{messageOf};
 ghost use Rattle.rules.specs.Book.{onFrame, onClock, onStart};
 ghost use Rattle.rules.specs.Said.{Does};
 ghost use Rattle.rules.specs.Given.{terms, call, Whole, Stocked, Ready};
+use message::View;
 use rules::Given;
-use rules::Message;
 use rules::Said;
 
 // A frame.
-pub fn on_frame(s: &mut [u8], g: Given, m: Message, groups: &[u16], fresh: &[u8]) -> Said
-    requires { ⌜ Ready (now s) (now groups) (now fresh) m ⌝ }
-    ensures { λ x. ⌜ Does x (now (s .exit)) (onFrame (terms g (now (groups .entry))) (call g (now (fresh .entry))) (decodePeer width (now (s .entry))) m) ⌝ }
+pub fn on_frame(s: &mut [u8], g: Given, v: View, body: &[u8], groups: &[u16], fresh: &[u8]) -> Said
+    requires { ⌜ Ready (now s) (now groups) (now fresh) (messageOf (now body) v) ⌝ }
+    ensures { λ x. ⌜ Does x (now (s .exit)) (onFrame (terms g (now (groups .entry))) (call g (now (fresh .entry))) (decodePeer width (now (s .entry))) (messageOf (now (body .entry)) v)) ⌝ }
 {
-    let act = decide::frame(s, g, m, groups, fresh);
-    perform::perform(s, g, m, groups, fresh, act)
+    let act = decide::frame(s, g, v, body, groups, fresh);
+    perform::perform(s, g, v, body, groups, fresh, act)
 }
 
 // A deadline of the record is due: "t0 before t1". No frame is there to be decided on, so the ladder's two rungs stand here.

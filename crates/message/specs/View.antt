@@ -8,7 +8,7 @@ use Rattle.groups.specs.Groups.{width, stored}
 use Rattle.frame.specs.Frame.{readBody, tokenOf, commitOf}
 use Rattle.frame.specs.declared.Body.{Body}
 use Rattle.frame.specs.declared.Body.the-variants as body
-use Rattle.rules.specs.declared.Message.{Message}
+use Rattle.rules.specs.Message.{Message}
 use Rattle.message.specs.declared.View.{View}
 
 -- ---- a body by its numbers
@@ -43,7 +43,7 @@ storedToken token = token ++ replicate (256 - length token) 0
 unfoldable pub commitIn : List ℕ → Bool → ℕ → ℕ → List ℕ
 commitIn frame listed group n = if listed then stored (commitOf frame group n) else replicate width 0
 
-unfoldable pub messageOf : List ℕ → View → Message
+abbrev pub messageOf : List ℕ → View → Message
 messageOf frame v =
     record {
       sequence = v .sequence;

@@ -2,10 +2,9 @@
 ghost use mathlib.Core.Path.{_≡_};
 ghost use Prim.Native.Nat.{_≤_};
 ghost use lib.ListN.{length};
-ghost use Rattle.message.specs.View.{commitView, confirmView, viewOf, view, storedToken, commitIn, messageOf};
+ghost use Rattle.message.specs.View.{commitView, confirmView, viewOf, view, storedToken, messageOf};
 use frame::Body;
 use groups::COMMIT;
-use rules::Message;
 
 // A body by its numbers: sequence (1 Commit, 2 Confirm, 0 not of the shapes), status, group, counter, whether the group is supported, and the
 // length of its token. What a body of its kind does not have is zero.
@@ -86,33 +85,24 @@ fn stored_token(token: &[u8]) -> [u8; 256]
     a
 }
 
-// A supported Commit's scalar and element as they are stored.
-fn commit_in(body: &[u8], listed: bool, group: u16, n: usize) -> [u8; COMMIT]
-    requires { ⌜ n ≤ 256 ⌝ }
-    ensures { λ r. ⌜ r ≡ commitIn (now (body .entry)) listed group n ⌝ }
-{
-    if listed {
-        return frame::commit_of(body, group, n);
-    }
-    [0u8; COMMIT]
-}
-
-// The message of a body that was read.
-pub fn heard(body: &[u8], v: View) -> Message
+// The token of a body that was read, as it is stored.
+pub fn token(body: &[u8], v: View) -> [u8; 256]
     requires { ⌜ v .toklen ≤ 256 ⌝ }
-    ensures { λ r. ⌜ r ≡ messageOf (now (body .entry)) v ⌝ }
+    ensures { λ r. ⌜ r ≡ messageOf (now (body .entry)) v .token ⌝ }
 {
     let n = v.toklen as usize;
-    let token = stored_token(frame::token_of(body, n));
-    let commit = commit_in(body, v.listed, v.group, n);
-    Message {
-        sequence: v.sequence,
-        status: v.status,
-        group: v.group,
-        counter: v.counter,
-        listed: v.listed,
-        toklen: v.toklen,
-        token: token,
-        commit: commit,
+    stored_token(frame::token_of(body, n))
+}
+
+// The scalar and the element of a body that was read, as they are stored, if it is a supported Commit.
+pub fn commit(body: &[u8], v: View) -> [u8; COMMIT]
+    requires { ⌜ v .toklen ≤ 256 ⌝ }
+    ensures { λ r. ⌜ r ≡ messageOf (now (body .entry)) v .commit ⌝ }
+{
+    let listed = v.listed;
+    if listed {
+        let n = v.toklen as usize;
+        return frame::commit_of(body, v.group, n);
     }
+    [0u8; COMMIT]
 }

@@ -6,7 +6,7 @@ use lib.ListN.{getD}
 use Rattle.groups.specs.Groups.{width, freshAt, freshFor}
 use Rattle.record.specs.declared.Peer.{Peer}
 use Rattle.record.specs.Layout.{decodePeer}
-use Rattle.rules.specs.declared.Message.{Message}
+use Rattle.rules.specs.Message.{Message}
 use Rattle.rules.specs.declared.Act.{Act}
 use Rattle.rules.specs.declared.Act.the-variants as act
 use Rattle.rules.specs.declared.Frame.{Frame}
@@ -96,15 +96,15 @@ module _ (t : Terms) (c : Call) (s : List ℕ) (m : Message) (a : Act) (x : Said
 -- ---- the leaves
 
 module _ (x : Said) (left : List ℕ) (p : Peer) where
-  pub answer-law : (address : List ℕ) (m : Message) (own gs fresh : List ℕ) (time : ℕ) (f k : Frame) → own ≡ freshFor gs fresh (m .group) → f ≡ commitFrame (m .group) → k ≡ confirmFrame 1
-      → Does x left (forming factory p address (m .group) own (m .commit) (Two f k) (m .group) time) → Does x left (answeringCommit factory p address m (freshFor gs fresh (m .group)) time)
+  pub answer-law : (address : List ℕ) (m : Message) (own theirs gs fresh : List ℕ) (time : ℕ) (f k : Frame) → own ≡ freshFor gs fresh (m .group) → theirs ≡ m .commit → f ≡ commitFrame (m .group) → k ≡ confirmFrame 1
+      → Does x left (forming factory p address (m .group) own theirs (Two f k) (m .group) time) → Does x left (answeringCommit factory p address m (freshFor gs fresh (m .group)) time)
   unfolding answeringCommit
-  answer-law address m own gs fresh time f k e q r d = subst (Does x left) (λ i. forming factory p address (m .group) (e i) (m .commit) (Two (q i) (r i)) (m .group) time) d
+  answer-law address m own theirs gs fresh time f k e h q r d = subst (Does x left) (λ i. forming factory p address (m .group) (e i) (h i) (Two (q i) (r i)) (m .group) time) d
 
-  pub confirm-law : (address : List ℕ) (m : Message) (own : List ℕ) (time : ℕ) (f : Frame) → own ≡ p .run .own → f ≡ confirmFrame 1
-      → Does x left (forming factory p address (m .group) own (m .commit) (One f) 0 time) → Does x left (confirmingCommit factory p address m time)
+  pub confirm-law : (address : List ℕ) (m : Message) (own theirs : List ℕ) (time : ℕ) (f : Frame) → own ≡ p .run .own → theirs ≡ m .commit → f ≡ confirmFrame 1
+      → Does x left (forming factory p address (m .group) own theirs (One f) 0 time) → Does x left (confirmingCommit factory p address m time)
   unfolding confirmingCommit
-  confirm-law address m own time f e q d = subst (Does x left) (λ i. forming factory p address (m .group) (e i) (m .commit) (One (q i)) 0 time) d
+  confirm-law address m own theirs time f e h q d = subst (Does x left) (λ i. forming factory p address (m .group) (e i) (h i) (One (q i)) 0 time) d
 
   pub begin-law : (address own gs fresh : List ℕ) (time : ℕ) → own ≡ freshAt fresh 0 → Does x left (starting factory p address (getD gs 0 0) own time)
       → Does x left (starting factory p address (getD gs 0 0) (freshAt fresh 0) time)

@@ -23,7 +23,7 @@ use Rattle.rules.specs.declared.Said.{Said}
 use Rattle.rules.specs.Parts.{withToken, switched, withRun}
 use Rattle.rules.specs.Book.{factory, deadline, delay, setT0, sending, startedRun, starting, replyingToken, commitFrame}
 use Rattle.rules.specs.Said.{Does, sayingFrames}
-use Rattle.rules.specs.declared.Message.{Message}
+use Rattle.rules.specs.Message.{Message}
 
 -- ---- the run's octets
 
@@ -118,14 +118,14 @@ unfolding sending withRun
 sent-law x s y t r fs afresh time e q z h k = record { leaves = ap (decodePeer width) q ∙ run-left s h y (setT0 factory r time) k e; says = z }
 
 pub reply-token-law :
-    (x : Said) (s y t : List ℕ) (m : Message) (group time : ℕ) (f : Frame) → group ≡ decodePeer width s .run .group →
-    decodeRun width y ≡ setT0 factory (withToken (decodeRun width (take (runSize width) (drop 7 s))) (m .toklen) (m .token)) time → t ≡ putMid 7 (runSize width) s y →
+    (x : Said) (s y t : List ℕ) (m : Message) (token : List ℕ) (group time : ℕ) (f : Frame) → token ≡ m .token → group ≡ decodePeer width s .run .group →
+    decodeRun width y ≡ setT0 factory (withToken (decodeRun width (take (runSize width) (drop 7 s))) (m .toklen) token) time → t ≡ putMid 7 (runSize width) s y →
     f ≡ commitFrame group → x ≡ sayingFrames (One f) → length s ≡ recordSize width → length y ≡ runSize width →
     Does x t (replyingToken factory (decodePeer width s) m time)
 unfolding replyingToken withToken
-reply-token-law x s y t m group time f g e q j z h k =
+reply-token-law x s y t m token group time f o g e q j z h k =
     let p = decodePeer width s in
-    let d : decodeRun width y ≡ setT0 factory (withToken (p .run) (m .toklen) (m .token)) time = e ∙ ap (λ (r : Run). setT0 factory (withToken r (m .toklen) (m .token)) time) (run-window s h) in
+    let d : decodeRun width y ≡ setT0 factory (withToken (p .run) (m .toklen) (m .token)) time = e ∙ (λ i. setT0 factory (withToken (run-window s h i) (m .toklen) (o i)) time) in
     let v : f ≡ commitFrame (p .run .group) = j ∙ ap commitFrame g in
     sent-law x s y t (withToken (p .run) (m .toklen) (m .token)) (One (commitFrame (p .run .group))) 0 time d q (z ∙ ap (λ (u : Frame). sayingFrames (One u)) v) h k
 

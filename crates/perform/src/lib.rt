@@ -9,9 +9,11 @@ ghost use Rattle.rules.specs.Parts.{withToken, switched, heardAgain, withLink};
 ghost use Rattle.rules.specs.Book.{factory, commitFrame, tokenRequestFrame, groupRefusalFrame, setT0, sending, answering, startedRun, starting, switching, answeringCommit, confirmingCommit, replyingToken, repeatingCommit, repeatingRefusal, confirmingAgain, resendingBoth, hearingLast, hearingAgain};
 ghost use Rattle.rules.specs.Book.{perform as performed};
 ghost use Rattle.rules.specs.Said.{sayingFrames, Does};
+ghost use Rattle.message.specs.View.{messageOf};
 ghost use Rattle.rules.specs.Given.{terms, call, Whole, Stocked, Ready, Able};
 use groups::COMMIT;
 use groups::Choice;
+use message::View;
 use record::ADDRESS;
 use record::GROUP;
 use record::LINK;
@@ -31,7 +33,6 @@ use rules::Act;
 use rules::Event;
 use rules::Frames;
 use rules::Given;
-use rules::Message;
 use rules::Said;
 
 // ---- Begin
@@ -96,20 +97,14 @@ fn ask_token(group: u16) -> Said
 // ---- AnswerCommit, ConfirmCommit
 
 // "fresh commit, Form, send Commit and Confirm".
-fn answer_commit(
-    s: &mut [u8],
-    address: [u8; 6],
-    m: Message,
-    groups: &[u16],
-    fresh: &[u8],
-    time: u32,
-) -> Said
-    requires { ⌜ (length (now s) ≡ recordSize width) × Stocked (now groups) (now fresh) ⌝ }
-    ensures { λ x. ⌜ Does x (now (s .exit)) (answeringCommit factory (decodePeer width (now (s .entry))) address m (freshFor (now (groups .entry)) (now (fresh .entry)) (m .group)) time) ⌝ }
+fn answer_commit(s: &mut [u8], g: Given, v: View, body: &[u8], groups: &[u16], fresh: &[u8]) -> Said
+    requires { ⌜ (length (now s) ≡ recordSize width) × (Stocked (now groups) (now fresh) × (v .toklen ≤ 256)) ⌝ }
+    ensures { λ x. ⌜ Does x (now (s .exit)) (answeringCommit factory (decodePeer width (now (s .entry))) (g .address) (messageOf (now (body .entry)) v) (freshFor (now (groups .entry)) (now (fresh .entry)) (v .group)) (g .time)) ⌝ }
 {
-    let group = m.group;
+    let address = g.address;
+    let group = v.group;
     let own = groups::fresh_for(groups, fresh, group);
-    let theirs = m.commit;
+    let theirs = message::commit(body, v);
     let commit = acts::commit_frame(group);
     let confirm = acts::confirm_frame(1);
     acts::form_pair(
@@ -120,27 +115,28 @@ fn answer_commit(
         theirs,
         Frames::Two(commit, confirm),
         group,
-        time,
+        g.time,
     )
 }
 
 // "Form, send Confirm".
-fn confirm_commit(s: &mut [u8], address: [u8; 6], m: Message, time: u32) -> Said
-    requires { ⌜ length (now s) ≡ recordSize width ⌝ }
-    ensures { λ x. ⌜ Does x (now (s .exit)) (confirmingCommit factory (decodePeer width (now (s .entry))) address m time) ⌝ }
+fn confirm_commit(s: &mut [u8], g: Given, v: View, body: &[u8]) -> Said
+    requires { ⌜ (length (now s) ≡ recordSize width) × (v .toklen ≤ 256) ⌝ }
+    ensures { λ x. ⌜ Does x (now (s .exit)) (confirmingCommit factory (decodePeer width (now (s .entry))) (g .address) (messageOf (now (body .entry)) v) (g .time)) ⌝ }
 {
+    let address = g.address;
     let own = record::own_of(s);
-    let theirs = m.commit;
+    let theirs = message::commit(body, v);
     let confirm = acts::confirm_frame(1);
     acts::form_pair(
         s,
         address,
-        m.group,
+        v.group,
         own,
         theirs,
         Frames::One(confirm),
         0,
-        time,
+        g.time,
     )
 }
 
@@ -159,13 +155,13 @@ fn store_token(r: &mut [u8], toklen: u16, token: [u8; 256], time: u32)
 }
 
 // "store the token, send Commit with it, set t0, not counted".
-fn reply_token(s: &mut [u8], m: Message, time: u32) -> Said
-    requires { ⌜ Whole (now s) ⌝ }
-    ensures { λ x. ⌜ Does x (now (s .exit)) (replyingToken factory (decodePeer width (now (s .entry))) m time) ⌝ }
+fn reply_token(s: &mut [u8], v: View, body: &[u8], time: u32) -> Said
+    requires { ⌜ Whole (now s) × (v .toklen ≤ 256) ⌝ }
+    ensures { λ x. ⌜ Does x (now (s .exit)) (replyingToken factory (decodePeer width (now (s .entry))) (messageOf (now (body .entry)) v) time) ⌝ }
 {
-    let token = m.token;
+    let token = message::token(body, v);
     let group = record::group_of(s);
-    store_token(&mut s[RUN..LINK], m.toklen, token, time);
+    store_token(&mut s[RUN..LINK], v.toklen, token, time);
     let commit = acts::commit_frame(group);
     acts::say_frames(Frames::One(commit))
 }
@@ -304,29 +300,37 @@ fn hear_again(s: &mut [u8], counter: u16) -> Said
 
 // ---- each act by its name
 
-pub fn perform(s: &mut [u8], g: Given, m: Message, groups: &[u16], fresh: &[u8], act: Act) -> Said
-    requires { ⌜ Ready (now s) (now groups) (now fresh) m × Able act (decodePeer width (now s)) ⌝ }
-    ensures { λ x. ⌜ Does x (now (s .exit)) (performed (terms g (now (groups .entry))) (call g (now (fresh .entry))) (decodePeer width (now (s .entry))) m act) ⌝ }
+pub fn perform(
+    s: &mut [u8],
+    g: Given,
+    v: View,
+    body: &[u8],
+    groups: &[u16],
+    fresh: &[u8],
+    act: Act,
+) -> Said
+    requires { ⌜ Ready (now s) (now groups) (now fresh) (messageOf (now body) v) × Able act (decodePeer width (now s)) ⌝ }
+    ensures { λ x. ⌜ Does x (now (s .exit)) (performed (terms g (now (groups .entry))) (call g (now (fresh .entry))) (decodePeer width (now (s .entry))) (messageOf (now (body .entry)) v) act) ⌝ }
 {
     let address = g.address;
     let time = g.time;
     match act {
         Act::Drop => acts::drop_frame(s, time),
-        Act::RefuseGroup => refuse_group(m.group),
-        Act::AskToken => ask_token(m.group),
+        Act::RefuseGroup => refuse_group(v.group),
+        Act::AskToken => ask_token(v.group),
         Act::NoSlot => acts::say_refused(),
-        Act::AnswerCommit => answer_commit(s, address, m, groups, fresh, time),
-        Act::ConfirmCommit => confirm_commit(s, address, m, time),
-        Act::ReplyToken => reply_token(s, m, time),
+        Act::AnswerCommit => answer_commit(s, g, v, body, groups, fresh),
+        Act::ConfirmCommit => confirm_commit(s, g, v, body),
+        Act::ReplyToken => reply_token(s, v, body, time),
         Act::SwitchGroup => switch_group(s, groups, fresh, time),
         Act::RepeatCommit => repeat_commit(s, time),
-        Act::RepeatRefusal => repeat_refusal(s, m.group, time),
+        Act::RepeatRefusal => repeat_refusal(s, v.group, time),
         Act::ResendBoth => resend_both(s, time),
         Act::ConfirmAgain => confirm_again(s, time),
         Act::GiveUp => acts::abandon(s),
-        Act::Accept => acts::accept(s, m.counter, time),
-        Act::HearAgain => hear_again(s, m.counter),
-        Act::HearLast => hear_last(s, m.counter),
+        Act::Accept => acts::accept(s, v.counter, time),
+        Act::HearAgain => hear_again(s, v.counter),
+        Act::HearLast => hear_last(s, v.counter),
         Act::EndLink => acts::end_link(s),
         Act::Begin => begin(s, address, groups, fresh, time),
     }

@@ -32,7 +32,7 @@ use Rattle.rules.specs.declared.Frames.{Frames}
 use Rattle.rules.specs.declared.Frames.the-variants.{None, One, Two}
 use Rattle.rules.specs.Parts.{withT0, counting, withToken, switched, heardAgain, withRun, withLink}
 use Rattle.rules.specs.Book.{Timing, Step, commitFrame, confirmFrame, deadline, delay, setT0, sending, answering, settled, abandoning, retransmitting, dropping, supersede, formedRun, forming, linkOfRun, accepting, endingLink, startedRun, starting, switching, replyingToken}
-use Rattle.rules.specs.declared.Message.{Message}
+use Rattle.rules.specs.Message.{Message}
 use Rattle.rule_laws.proofs.Outcomes.{whether, switch-outcomes, repeat-outcomes, drop-outcomes, settle-outcomes}
 
 -- ---- what is handed over

@@ -7,7 +7,7 @@ use Rattle.octets.specs.Scan.{if_then_else_}
 use Rattle.octets.proofs.Scan.{clash}
 use Rattle.record.specs.declared.Peer.{Peer}
 use Rattle.record.specs.Layout.{noRun, noLink, noPeer}
-use Rattle.rules.specs.declared.Message.{Message}
+use Rattle.rules.specs.Message.{Message}
 use Rattle.rules.specs.declared.Frames.{Frames}
 use Rattle.rules.specs.declared.Act.{Act}
 use Rattle.rules.specs.declared.Act.the-variants as act

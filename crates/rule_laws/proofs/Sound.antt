@@ -14,7 +14,7 @@ use Rattle.groups.specs.Groups.{width, freshAt, freshFor, listed}
 use Rattle.record.specs.declared.Peer.{Peer}
 use Rattle.soundness.specs.Soundness.{highSync}
 use Rattle.soundness.proofs.Laws.{run-states, run-is-committed, link-is-finished}
-use Rattle.rules.specs.declared.Message.{Message}
+use Rattle.rules.specs.Message.{Message}
 use Rattle.rules.specs.declared.Act.{Act}
 use Rattle.rules.specs.declared.Act.the-variants as act
 use Rattle.rules.specs.Book.{_is_, holds, Terms, Call, Step, silence, t0Due, perform, refusing, answeringCommit, confirmingCommit, repeatingCommit, repeatingRefusal, confirmingAgain, resendingBoth, hearingAgain, hearingLast, commitAct, confirmAct, clockAct, onFrame, onClock, onStart}

@@ -6,7 +6,7 @@ use native.Mathlib.Omega.{arith}
 use lib.Dec.{lit<}
 use Rattle.record.specs.declared.Run.{Run}
 use Rattle.record.specs.declared.Peer.{Peer}
-use Rattle.rules.specs.declared.Message.{Message}
+use Rattle.rules.specs.Message.{Message}
 use Rattle.rules.specs.declared.Act.{Act}
 use Rattle.rules.specs.declared.Frame.{Frame}
 use Rattle.rules.specs.declared.Frames.{Frames}

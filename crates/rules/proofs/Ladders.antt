@@ -10,7 +10,7 @@ use Rattle.octets.specs.Scan.{if_then_else_}
 use Rattle.octets.proofs.Scan.{and-left}
 use Rattle.octets.specs.Octets.{same, higher}
 use Rattle.record.specs.declared.Peer.{Peer}
-use Rattle.rules.specs.declared.Message.{Message}
+use Rattle.rules.specs.Message.{Message}
 use Rattle.rules.specs.declared.Act.{Act}
 use Rattle.rules.specs.declared.Act.the-variants.{ResendBoth, HearAgain}
 use Rattle.rules.specs.Given.{Able}

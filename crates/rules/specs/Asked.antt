@@ -4,7 +4,7 @@ use mathlib.Core.Bool.{true, false}
 use Prim.Native.Nat.{_≤_, _<_}
 use Rattle.octets.specs.Octets.{same}
 use Rattle.record.specs.declared.Peer.{Peer}
-use Rattle.rules.specs.declared.Message.{Message}
+use Rattle.rules.specs.Message.{Message}
 use Rattle.rules.specs.declared.Act.{Act}
 use Rattle.rules.specs.declared.Act.the-variants.{Drop, RefuseGroup, AskToken, NoSlot, AnswerCommit, ConfirmCommit, ReplyToken, SwitchGroup, RepeatCommit, RepeatRefusal, ResendBoth, ConfirmAgain, GiveUp, Accept, HearAgain, HearLast, EndLink, Begin}
 use Rattle.rules.specs.Book.{Terms, Call, ourFresh}

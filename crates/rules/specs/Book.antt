@@ -17,9 +17,9 @@ use Rattle.groups.specs.declared.Choice.the-variants as choice
 use Rattle.record.specs.declared.Run.{Run}
 use Rattle.record.specs.declared.Link.{Link}
 use Rattle.record.specs.declared.Peer.{Peer}
-use Rattle.record.specs.Layout.{noRun, noLink, noPeer}
+use Rattle.record.specs.Layout.{noRun, noLink, noPeer, factoryPeriod, factoryLimit}
 use Rattle.rules.specs.Parts.{withT0, counting, withToken, switched, withMark, heardAgain, withRun, withLink}
-use Rattle.rules.specs.declared.Message.{Message}
+use Rattle.rules.specs.Message.{Message}
 use Rattle.rules.specs.declared.Act.{Act}
 use Rattle.rules.specs.declared.Act.the-variants.{Drop, RefuseGroup, AskToken, NoSlot, AnswerCommit, ConfirmCommit, ReplyToken, SwitchGroup, RepeatCommit, RepeatRefusal, ResendBoth, ConfirmAgain, GiveUp, Accept, HearAgain, HearLast, EndLink, Begin}
 use Rattle.rules.specs.declared.Event.{Event}
@@ -36,7 +36,7 @@ pub record Timing : Type 0 where
   pub limit : ℕ
 
 abbrev pub factory : Timing
-factory = record { period = 40; limit = 5 }
+factory = record { period = factoryPeriod; limit = factoryLimit }
 
 -- What the table says to a peer's rules. Others' calls reach a peer only through the last two.
 pub record Terms : Type 0 where

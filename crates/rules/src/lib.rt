@@ -1,19 +1,4 @@
-// What the rules speak of, as types: the frame that is heard, the acts by name, and what is said. The rules themselves are definitions (specs/Book).
-use groups::COMMIT;
-
-// A received frame as the rules see it: sequence (1 Commit, 2 Confirm), status, group, counter, whether the group is supported, its token and its
-// commit as they are stored. What a frame of its kind does not have is zero.
-pub struct Message {
-    pub sequence: u16,
-    pub status: u16,
-    pub group: u16,
-    pub counter: u16,
-    pub listed: bool,
-    pub toklen: u16,
-    pub token: [u8; 256],
-    pub commit: [u8; COMMIT],
-}
-
+// What the rules speak of, as types: what a call gives, the acts by name, and what is said. The rules themselves are definitions (specs/Book).
 // What a call gives a rule beside the groups and the fresh commits. Of the table: our own address, whether Open is at or above the threshold, whether
 // the peer has no record and no slot is free for one. Of the call: the peer's address, the clock's reading, the expected token and the verdict.
 pub struct Given {

@@ -280,7 +280,7 @@ unfolding octets.part octets.put octets.num octets.oct octets.allZero octets.sam
     layout.peerFields layout.peerOf layout.encodePeer layout.decodePeer layout.headerWidths layout.frontFields layout.backFields layout.headerFields
     layout.headerFront layout.headerBack layout.headerOf layout.encodeHeader layout.decodeHeader layout.noRun layout.noLink layout.noPeer
     tables.peersOf tables.octetsOf tables.decodeTable tables.encodeTable tables.slot tables.belongs tables.finds tables.lookBy tables.look seen.view
-    seen.commitIn seen.messageOf seen.message writing.drawCommit writing.drawTokenRequest writing.drawGroupRefusal writing.drawConfirm
+    seen.commitIn seen.message writing.drawCommit writing.drawTokenRequest writing.drawGroupRefusal writing.drawConfirm
     writing.drawCommits writing.drawConfirms writing.partsBody writing.partsRead writing.written writing.leaves writer.draws writer.writesParts
     writer.recordCommit writer.recordConfirm writer.recordBody writer.writesRecordBy writer.writesRecord stories.told stories.cleared
 tells =

@@ -165,7 +165,7 @@ unfolding octets.part octets.put octets.num octets.oct octets.allZero octets.sam
     initial.initial book.deadline book.holds book.linkedWith book.startAct book.commitIdle book.commitCommitted book.confirmConfirmed book.commitAct
     book.confirmAct book.frameAct book.delay book.setT0 book.supersede book.formedRun book.forming book.startedRun book.starting book.linkOfRun
     book.accepting book.answeringCommit book.confirmingCommit book.perform book.onFrame book.onStart seen.view seen.storedToken seen.commitIn
-    seen.messageOf seen.message answers.said answers.quiet answers.seating answers.finishAt answers.finishes answers.turned calls.crowded calls.full
+    seen.message answers.said answers.quiet answers.seating answers.finishAt answers.finishes answers.turned calls.crowded calls.full
     calls.initializes calls.admitStart calls.startTurn calls.startStep calls.initiates calls.admitFrame calls.frameTurn calls.frameStep calls.receives
 plays =
     record {

@@ -30,26 +30,26 @@ is-wrong-requires c κs = search needs
 
 returns-5 : tie.Need-returns-5
 unfolding commitIdle
-returns-5 c = rw (eq-eqb _ _ (c .before .before .before .before .before .before .before .before .if1 .left), holds-not-false _ (c .before .before .before .before .before .before .before .if2 .left), answered-false _ _ (c .before .before .before .before .before .before .is-linked .ensures) (c .before .before .before .before .before .if3 .left), holds-false _ (c .before .before .before .before .if4 .left), answered-true _ _ (c .before .is-wrong .ensures) (c .if5 .taken)) refl
+returns-5 c = rw (eq-eqb _ _ (c .before .before .before .before .before .before .before .if1 .left), holds-not-false _ (c .before .before .before .before .before .before .if2 .left), answered-false _ _ (c .before .before .before .before .before .is-linked .ensures) (c .before .before .before .before .if3 .left), holds-false _ (c .before .before .before .if4 .left), answered-true _ _ (c .before .is-wrong .ensures) (c .if5 .taken)) refl
 
 equals-fresh-requires : tie.Need-equals-fresh-requires
 equals-fresh-requires c κs = search needs
 
 returns-6 : tie.Need-returns-6
 unfolding commitIdle
-returns-6 c = rw (eq-eqb _ _ (c .before .before .before .before .before .before .before .before .before .before .if1 .left), holds-not-false _ (c .before .before .before .before .before .before .before .before .before .if2 .left), answered-false _ _ (c .before .before .before .before .before .before .before .before .is-linked .ensures) (c .before .before .before .before .before .before .before .if3 .left), holds-false _ (c .before .before .before .before .before .before .if4 .left), answered-false _ _ (c .before .before .before .is-wrong .ensures) (c .before .before .if5 .left), answered-true _ _ (c .before .equals-fresh .ensures) (c .if6 .taken)) refl
+returns-6 c = rw (eq-eqb _ _ (c .before .before .before .before .before .before .before .before .before .if1 .left), holds-not-false _ (c .before .before .before .before .before .before .before .before .if2 .left), answered-false _ _ (c .before .before .before .before .before .before .before .is-linked .ensures) (c .before .before .before .before .before .before .if3 .left), holds-false _ (c .before .before .before .before .before .if4 .left), answered-false _ _ (c .before .before .before .is-wrong .ensures) (c .before .before .if5 .left), answered-true _ _ (c .before .equals-fresh .ensures) (c .if6 .taken)) refl
 
 returns-7 : tie.Need-returns-7
 unfolding commitIdle
-returns-7 c = rw (eq-eqb _ _ (c .before .before .before .before .before .before .before .before .before .before .before .if1 .left), holds-not-false _ (c .before .before .before .before .before .before .before .before .before .before .if2 .left), answered-false _ _ (c .before .before .before .before .before .before .before .before .before .is-linked .ensures) (c .before .before .before .before .before .before .before .before .if3 .left), holds-false _ (c .before .before .before .before .before .before .before .if4 .left), answered-false _ _ (c .before .before .before .before .is-wrong .ensures) (c .before .before .before .if5 .left), answered-false _ _ (c .before .before .equals-fresh .ensures) (c .before .if6 .left), holds-not-true _ (c .if7 .taken)) refl
+returns-7 c = rw (eq-eqb _ _ (c .before .before .before .before .before .before .before .before .before .before .if1 .left), holds-not-false _ (c .before .before .before .before .before .before .before .before .before .if2 .left), answered-false _ _ (c .before .before .before .before .before .before .before .before .is-linked .ensures) (c .before .before .before .before .before .before .before .if3 .left), holds-false _ (c .before .before .before .before .before .before .if4 .left), answered-false _ _ (c .before .before .before .before .is-wrong .ensures) (c .before .before .before .if5 .left), answered-false _ _ (c .before .before .equals-fresh .ensures) (c .before .if6 .left), holds-not-true _ (c .if7 .taken)) refl
 
 returns-8 : tie.Need-returns-8
 unfolding commitIdle
-returns-8 c = rw (eq-eqb _ _ (c .before .before .before .before .before .before .before .before .before .before .before .before .if1 .left), holds-not-false _ (c .before .before .before .before .before .before .before .before .before .before .before .if2 .left), answered-false _ _ (c .before .before .before .before .before .before .before .before .before .before .is-linked .ensures) (c .before .before .before .before .before .before .before .before .before .if3 .left), holds-false _ (c .before .before .before .before .before .before .before .before .if4 .left), answered-false _ _ (c .before .before .before .before .before .is-wrong .ensures) (c .before .before .before .before .if5 .left), answered-false _ _ (c .before .before .before .equals-fresh .ensures) (c .before .before .if6 .left), holds-not-false _ (c .before .if7 .left), holds-true _ (c .if8 .taken)) refl
+returns-8 c = rw (eq-eqb _ _ (c .before .before .before .before .before .before .before .before .before .before .before .if1 .left), holds-not-false _ (c .before .before .before .before .before .before .before .before .before .before .if2 .left), answered-false _ _ (c .before .before .before .before .before .before .before .before .before .is-linked .ensures) (c .before .before .before .before .before .before .before .before .if3 .left), holds-false _ (c .before .before .before .before .before .before .before .if4 .left), answered-false _ _ (c .before .before .before .before .before .is-wrong .ensures) (c .before .before .before .before .if5 .left), answered-false _ _ (c .before .before .before .equals-fresh .ensures) (c .before .before .if6 .left), holds-not-false _ (c .before .if7 .left), holds-true _ (c .if8 .taken)) refl
 
 returns-9 : tie.Need-returns-9
 unfolding commitIdle
-returns-9 c = rw (eq-eqb _ _ (c .before .before .before .before .before .before .before .before .before .before .before .before .if1 .left), holds-not-false _ (c .before .before .before .before .before .before .before .before .before .before .before .if2 .left), answered-false _ _ (c .before .before .before .before .before .before .before .before .before .before .is-linked .ensures) (c .before .before .before .before .before .before .before .before .before .if3 .left), holds-false _ (c .before .before .before .before .before .before .before .before .if4 .left), answered-false _ _ (c .before .before .before .before .before .is-wrong .ensures) (c .before .before .before .before .if5 .left), answered-false _ _ (c .before .before .before .equals-fresh .ensures) (c .before .before .if6 .left), holds-not-false _ (c .before .if7 .left), holds-false _ (c .if8 .left)) refl
+returns-9 c = rw (eq-eqb _ _ (c .before .before .before .before .before .before .before .before .before .before .before .if1 .left), holds-not-false _ (c .before .before .before .before .before .before .before .before .before .before .if2 .left), answered-false _ _ (c .before .before .before .before .before .before .before .before .before .is-linked .ensures) (c .before .before .before .before .before .before .before .before .if3 .left), holds-false _ (c .before .before .before .before .before .before .before .if4 .left), answered-false _ _ (c .before .before .before .before .before .is-wrong .ensures) (c .before .before .before .before .if5 .left), answered-false _ _ (c .before .before .before .equals-fresh .ensures) (c .before .before .if6 .left), holds-not-false _ (c .before .if7 .left), holds-false _ (c .if8 .left)) refl
 
 pub commit-idle-spec : {M : Type 1} → statement M
 commit-idle-spec =

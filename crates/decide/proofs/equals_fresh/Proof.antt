@@ -3,6 +3,9 @@ use Rattle.decide.proofs.equals_fresh.Statement.{statement}
 use Rattle.decide.proofs.equals_fresh.Tie as tie
 use Rattle.decide.proofs.equals_fresh.Reads as reads
 
+commit-requires : tie.Need-commit-requires
+commit-requires c κs = search needs
+
 fresh-for-requires : tie.Need-fresh-for-requires
 fresh-for-requires c κs = search needs
 
@@ -22,6 +25,7 @@ pub equals-fresh-spec : {M : Type 1} → statement M
 equals-fresh-spec =
     tie.close
     (tie.spec
+    commit-requires
     fresh-for-requires
     slice-aggregate-is-same
     slice-aggregate-is-same-2

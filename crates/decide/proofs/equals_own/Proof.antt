@@ -5,6 +5,9 @@ use Rattle.decide.proofs.equals_own.Statement.{statement}
 use Rattle.decide.proofs.equals_own.Tie as tie
 use Rattle.decide.proofs.equals_own.Reads as reads
 
+commit-requires : tie.Need-commit-requires
+commit-requires c κs = search needs
+
 add-a : tie.Need-add-a
 add-a c = search needs
 
@@ -28,12 +31,13 @@ is-same-requires c κs = search needs
 
 returns : tie.Need-returns
 unfolding part
-returns c = rw (own-law _) (c .is-same .ensures)
+returns c = rw (own-law _, ← c .before .before .before .commit .ensures) (c .is-same .ensures)
 
 pub equals-own-spec : {M : Type 1} → statement M
 equals-own-spec =
     tie.close
     (tie.spec
+    commit-requires
     add-a
     add-e
     slice-aggregate-is-same

@@ -1,3 +1,4 @@
+use Rattle.message.specs.View.{messageOf}
 use mathlib.Core.Path.{_≡_, refl}
 use lib.ListN.{length}
 use Rattle.record.proofs.Windows.{no-peer-left}
@@ -17,25 +18,25 @@ slice-aggregate-on-frame : tie.Need-slice-aggregate-on-frame
 slice-aggregate-on-frame c = search needs
 
 array-share-prefix-list : tie.Need-array-share-prefix-list
-array-share-prefix-list c = let k = c .before .before .before .before .before in count-fits (k .args .h) (k .pre .0 .header) (two k)
+array-share-prefix-list c = let k = c .before .before .before .before .before .before in count-fits (k .args .h) (k .pre .0 .header) (two k)
 
 slice-aggregate-on-frame-2 : tie.Need-slice-aggregate-on-frame-2
-slice-aggregate-on-frame-2 c = let k = c .before .before .before .before .before .before in listed-count (k .args .h) (k .pre .0 .header) (two k)
+slice-aggregate-on-frame-2 c = let k = c .before .before .before .before .before .before .before in listed-count (k .args .h) (k .pre .0 .header) (two k)
 
 on-frame-requires : tie.Need-on-frame-requires
-on-frame-requires c κs = let k = c .before .before .before .before .before .before in ready _ (k .args .h) _ (k .args .m) (blank-whole _ (search needs) (no-peer-left 864 refl)) (k .pre .0) (two k) (k .pre .1)
+on-frame-requires c κs = let k = c .before .before .before .before .before .before .before in ready _ (k .args .h) _ (messageOf (k .args .body .now) (k .args .v)) (blank-whole _ (search needs) (no-peer-left 864 refl)) (k .pre .0) (two k) (k .pre .1)
 
 refuse-with-requires : tie.Need-refuse-with-requires
 refuse-with-requires c κs = search needs
 
 returns : tie.Need-returns
-returns c = let k = c .before .before .before .before .before .before .before .before .before .before in outside-refused _ _ _ _ (outside-says (k .args .h) (k .args .g) (k .args .m) _ _ _ _ (no-peer-left 864 refl) (c .before .before .before .on-frame .ensures)) (c .before .if1 .taken) (c .refuse-with .ensures)
+returns c = let k = c .before .before .before .before .before .before .before .before .before .before .before in outside-refused _ _ _ _ (outside-says (k .args .h) (k .args .g) (messageOf (k .args .body .now) (k .args .v)) _ _ _ _ (no-peer-left 864 refl) (c .before .before .before .on-frame .ensures)) (c .before .if1 .taken) (c .refuse-with .ensures)
 
 say-requires : tie.Need-say-requires
 say-requires c κs = search needs
 
 returns-2 : tie.Need-returns-2
-returns-2 c = let k = c .before .before .before .before .before .before .before .before .before .before in outside-said _ _ _ _ (outside-says (k .args .h) (k .args .g) (k .args .m) _ _ _ _ (no-peer-left 864 refl) (c .before .before .before .on-frame .ensures)) (c .before .if1 .left) (c .say .ensures)
+returns-2 c = let k = c .before .before .before .before .before .before .before .before .before .before .before in outside-said _ _ _ _ (outside-says (k .args .h) (k .args .g) (messageOf (k .args .body .now) (k .args .v)) _ _ _ _ (no-peer-left 864 refl) (c .before .before .before .on-frame .ensures)) (c .before .if1 .left) (c .say .ensures)
 
 pub hear-outside-spec : {M : Type 1} → statement M
 hear-outside-spec =

@@ -1,5 +1,5 @@
 use Rattle.engine.proofs.Headers.{enters-met, met-listing}
-use Rattle.engine.proofs.Frames.{heard-short, given-brought, receive-refused, receive-goes, receive-went}
+use Rattle.engine.proofs.Frames.{given-brought, receive-refused, receive-goes, receive-went}
 use borrow.Author.Needs.{needs}
 use Rattle.engine.proofs.receive.Statement.{statement}
 use Rattle.engine.proofs.receive.Tie as tie
@@ -19,17 +19,14 @@ refuse-with-requires c κs = search needs
 enum-known-turn-2 : tie.Need-enum-known-turn-2
 enum-known-turn-2 c = search needs
 
-heard-requires : tie.Need-heard-requires
-heard-requires c κs = search needs
-
 token-of-requires : tie.Need-token-of-requires
-token-of-requires c κs = receive-goes _ _ _ _ _ _ (c .before .before .before .before .before .before .before .enter .result) (c .before .before .before .before .before .before .before .enter .ensures) (c .before .before .before .before .before .frame-turn .result) (c .before .before .before .before .before .frame-turn .ensures) _ (c .before .before .turn2 .given .1) .token
+token-of-requires c κs = receive-goes _ _ _ _ _ _ (c .before .before .before .before .before .before .enter .result) (c .before .before .before .before .before .before .enter .ensures) (c .before .before .before .before .frame-turn .result) (c .before .before .before .before .frame-turn .ensures) _ (c .before .turn2 .given .1) .token
 
 given-of-requires : tie.Need-given-of-requires
 given-of-requires c κs = search needs
 
 hear-requires : tie.Need-hear-requires
-hear-requires c κs = let G = receive-goes _ _ _ _ _ _ (c .before .before .before .before .before .before .before .before .before .before .enter .result) (c .before .before .before .before .before .before .before .before .before .before .enter .ensures) (c .before .before .before .before .before .before .before .before .frame-turn .result) (c .before .before .before .before .before .before .before .before .frame-turn .ensures) _ (c .before .before .before .before .before .turn2 .given .1) in (G .held, (G .stock, (given-brought _ _ _ _ _ _ (c .before .given-of .ensures), heard-short _ _ _ (c .before .before .before .heard .ensures) (c .before .before .before .before .before .before .before .before .frame-turn .ensures .short))))
+hear-requires c κs = let G = receive-goes _ _ _ _ _ _ (c .before .before .before .before .before .before .before .before .before .enter .result) (c .before .before .before .before .before .before .before .before .before .enter .ensures) (c .before .before .before .before .before .before .before .frame-turn .result) (c .before .before .before .before .before .before .before .frame-turn .ensures) _ (c .before .before .before .before .turn2 .given .1) in (G .held, (G .stock, (given-brought _ _ _ _ _ _ (c .before .given-of .ensures), c .before .before .before .before .before .before .before .frame-turn .ensures .short)))
 
 same-length : tie.Need-same-length
 same-length c = search needs
@@ -41,7 +38,7 @@ same-length-2 : tie.Need-same-length-2
 same-length-2 c = search needs
 
 returns-2 : tie.Need-returns-2
-returns-2 c = receive-went _ _ (c .before .before .before .before .before .before .before .before .before .before .before .before .before .before .before .before .before .before .before .args .time) _ _ _ _ (c .before .before .before .before .before .before .before .before .before .before .before .before .before .enter .result) (c .before .before .before .before .before .before .before .before .before .before .before .before .before .enter .ensures) (c .before .before .before .before .before .before .before .before .before .before .before .frame-turn .result) (c .before .before .before .before .before .before .before .before .before .before .before .frame-turn .ensures) _ _ _ _ _ _ (c .before .before .before .before .before .before .before .before .turn2 .given .1) (c .before .before .before .before .before .before .heard .ensures) (c .before .before .before .before .before .token-of .ensures) (c .before .before .before .before .given-of .ensures) (c .before .before .hear .ensures)
+returns-2 c = receive-went _ _ (c .before .before .before .before .before .before .before .before .before .before .before .before .before .before .before .before .before .before .args .time) _ _ _ _ (c .before .before .before .before .before .before .before .before .before .before .before .before .enter .result) (c .before .before .before .before .before .before .before .before .before .before .before .before .enter .ensures) (c .before .before .before .before .before .before .before .before .before .before .frame-turn .result) (c .before .before .before .before .before .before .before .before .before .before .frame-turn .ensures) _ _ _ _ _ (c .before .before .before .before .before .before .before .turn2 .given .1) (c .before .before .before .before .before .token-of .ensures) (c .before .before .before .before .given-of .ensures) (c .before .before .hear .ensures)
 
 pub receive-spec : {M : Type 1} → statement M
 receive-spec =
@@ -52,7 +49,6 @@ receive-spec =
     enum-known-turn
     refuse-with-requires
     enum-known-turn-2
-    heard-requires
     token-of-requires
     given-of-requires
     hear-requires

@@ -67,7 +67,7 @@ enum-told-11 : tie.Need-enum-told-11
 enum-told-11 c = search needs
 
 resend-both-requires : tie.Need-resend-both-requires
-resend-both-requires c κs = let k = c .before .before .before .before .before .before .before .pre in (k .0 .record-is, k .1 .resend (c .before .enum-told11 .given .1))
+resend-both-requires c κs = let k = c .before .before .before .before .before .before .before .before .pre in (k .0 .record-is, k .1 .resend (c .before .enum-told11 .given .1))
 
 enum-told-12 : tie.Need-enum-told-12
 enum-told-12 c = search needs
@@ -91,7 +91,7 @@ enum-told-15 : tie.Need-enum-told-15
 enum-told-15 c = search needs
 
 hear-again-requires : tie.Need-hear-again-requires
-hear-again-requires c κs = let k = c .before .before .before .before .before .before .before .pre in (k .0 .record-is .size, k .1 .hear (c .before .enum-told15 .given .1))
+hear-again-requires c κs = let k = c .before .before .before .before .before .before .before .before .pre in (k .0 .record-is .size, k .1 .hear (c .before .enum-told15 .given .1))
 
 enum-told-16 : tie.Need-enum-told-16
 enum-told-16 c = search needs
