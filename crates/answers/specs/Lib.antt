@@ -1,2 +1,2 @@
--- What the contracts of `turn` cite.
+-- What the contracts of `answers` cite.
 pub mod Answers

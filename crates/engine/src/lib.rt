@@ -1,5 +1,5 @@
-// The calls: set up, start, kill, frame received and clock. Each takes lent slices of any content and length. The header is loaded once and the body
-// read once: what is found is handed on.
+// The calls: set up, start, kill, frame received and clock. Each takes lent slices of any content and length. The table's header and the
+// view of a frame's body are handed on: no function loads or reads them again.
 ghost use mathlib.Core.Path.{_≡_};
 ghost use mathlib.Core.List.{[]};
 ghost use Prim.Native.Nat.{_+_, _*_, _≤_};

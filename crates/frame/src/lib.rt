@@ -290,6 +290,11 @@ pub fn commit_of(frame: &[u8], group: u16, token: usize) -> [u8; COMMIT]
     if all - at < n {
         return groups::stored_commit(frame, at, all - at);
     }
+    // Of a length that is known beforehand, the octets are copied without a call.
+    let usual = groups::commit_length(19);
+    if n == usual {
+        return groups::stored_commit(frame, at, usual);
+    }
     groups::stored_commit(frame, at, n)
 }
 

@@ -1,2 +1,2 @@
--- What the contracts of `form` cite.
+-- What the contracts of `soundness` cite.
 pub mod Soundness

@@ -20,7 +20,8 @@ use Rattle.record.specs.declared.Header.{Header}
 use Rattle.record.specs.Layout.{groupsOf}
 use Rattle.soundness.specs.Soundness.{usable, headerOk, peerOk}
 use Rattle.soundness.proofs.Laws.{header-form, groups-form}
-use Rattle.table.specs.Table.{Table, size, decodeTable, slot, slots, inUse, isOpen, belongs, alone, slotsOk, addressesOk, countsOk, sound, usedCount, openCount, finds, freeSlot, entry, foundEntry, withPeer, standingOf, Changed, Ready, Whole, Sized, Looked}
+use Rattle.table.specs.Table.{Table, size, decodeTable, slot, slots, inUse, isOpen, belongs, alone, slotsOk, addressesOk, countsOk, sound, usedCount, openCount, finds, freeSlot, entry, foundEntry, withPeer, standingOf, Changed, Ready, Whole, Sized, Looked, Enters}
+use Rattle.table.specs.declared.Entrance.{Entrance}
 use Rattle.table.specs.declared.Standing.{Standing}
 use Rattle.table.specs.declared.Entry.{Entry}
 use Rattle.table.specs.declared.Entry.the-variants as entry-is
@@ -347,9 +348,15 @@ module _ (t : List ℕ) (whole : Bool) (h : Header) (L : Looked t whole h) where
   pub looked-sized : not whole ≡ false → Sized t (h .slots)
   looked-sized q = let w = slots-law t h (looked-sound q) (looked-header q) in record { number = w .0; long = omega (arith, w .1) }
 
--- octets too few for a header
-pub not-looked : (t : List ℕ) (h : Header) → length t < 32 → Looked t false h
-not-looked t h l = record { right = not-long t l; header = λ e. absurd (clash e (sym (not-long t l))) }
+-- what the test came to
+pub looked-unsound : (t : List ℕ) (h : Header) (b : Bool) → b ≡ sound t → not b ≡ true → Looked t false h
+looked-unsound t h b e q = let z : false ≡ sound t = sym (not-true b q) ∙ e in record { right = z; header = λ s. absurd (clash s (sym z)) }
+
+pub looked-whole : (t : List ℕ) (h : Header) (b : Bool) → b ≡ sound t → not b ≡ false → h ≡ decodeTable t .header → Looked t true h
+looked-whole t h b e q g = record { right = sym (not-false b q) ∙ e; header = λ s. g }
+
+pub entered-unsound : (t a : List ℕ) (r : Entrance) (b : Bool) → r .entry ≡ entry-is.Unsound → b ≡ sound t → not b ≡ true → Enters r t a
+entered-unsound t a r b u e q = record { entry = u ∙ enter-unsound t a b e q; header = looked-unsound t (r .header) b e q .header }
 
 pub entry-at : (t a : List ℕ) (k : ℕ) → entry t a ≡ entry-is.At k → (sound t ≡ true) × ((usable (decodeTable t .header .own) a ≡ true) × (finds (decodeTable t) a ≡ At k))
 unfolding entry

@@ -318,11 +318,22 @@ fn is_whole(t: &[u8], h: Header) -> bool
     body_ok(t, h, n)
 }
 
-// The whole form of the table, for octets of any number and content; the header is loaded here and handed on.
+// The whole form of the table, for octets of any number and content.
+fn is_sound(t: &[u8]) -> bool
+    ensures { λ r. ⌜ r ≡ sound (now (t .entry)) ⌝ }
+{
+    if t.len() < HEADER {
+        return false;
+    }
+    let h = header_of(t);
+    is_whole(t, h)
+}
+
+// The test, and the header to be handed on. It is loaded once the test is done: kept over the test, each of its fields would be stored and loaded again.
 pub fn check(t: &[u8]) -> Checked
     ensures { λ r. ⌜ Checks r (now (t .entry)) ⌝ }
 {
-    if t.len() < HEADER {
+    if !is_sound(t) {
         let none = record::no_header();
         return Checked {
             sound: false,
@@ -330,9 +341,8 @@ pub fn check(t: &[u8]) -> Checked
         };
     }
     let h = header_of(t);
-    let sound = is_whole(t, h);
     Checked {
-        sound: sound,
+        sound: true,
         header: h,
     }
 }
@@ -356,14 +366,11 @@ pub fn free_slot(t: &[u8], n: usize) -> Found
     free_below(t, n)
 }
 
-// What an address comes to, the table being sound or not.
-fn entry_of(t: &[u8], whole: bool, h: Header, a: [u8; 6]) -> Entry
-    requires { ⌜ Looked (now t) whole h ⌝ }
+// What an address comes to in a sound table.
+fn entry_of(t: &[u8], h: Header, a: [u8; 6]) -> Entry
+    requires { ⌜ Looked (now t) true h ⌝ }
     ensures { λ r. ⌜ r ≡ entry (now (t .entry)) a ⌝ }
 {
-    if !whole {
-        return Entry::Unsound;
-    }
     let own = h.own;
     if !soundness::is_usable(own, a) {
         return Entry::Unusable;
@@ -378,9 +385,15 @@ fn entry_of(t: &[u8], whole: bool, h: Header, a: [u8; 6]) -> Entry
 pub fn enter(t: &[u8], a: [u8; 6]) -> Entrance
     ensures { λ r. ⌜ Enters r (now (t .entry)) a ⌝ }
 {
-    let c = check(t);
-    let h = c.header;
-    let entry = entry_of(t, c.sound, h, a);
+    if !is_sound(t) {
+        let none = record::no_header();
+        return Entrance {
+            entry: Entry::Unsound,
+            header: none,
+        };
+    }
+    let h = header_of(t);
+    let entry = entry_of(t, h, a);
     Entrance {
         entry: entry,
         header: h,

@@ -1,4 +1,5 @@
 -- `frame::commit_of` meets its contract: its answers by laws of Laws.
+use mathlib.Core.Path.{sym, _∙_}
 use native.Mathlib.Omega.{arith}
 use Rattle.frame.proofs.Laws.{commit-past, commit-rest, commit-whole}
 use borrow.Author.Needs.{needs}
@@ -35,11 +36,20 @@ stored-commit-requires-3 c κs = search needs
 returns-3 : tie.Need-returns-3
 returns-3 c = commit-rest _ _ _ _ _ (c .before .before .before .before .commit-length .ensures .0) (omega arith) (c .before .if3 .taken) (c .stored-commit3 .ensures)
 
+commit-length-requires-2 : tie.Need-commit-length-requires-2
+commit-length-requires-2 c κs = search needs
+
 stored-commit-requires-4 : tie.Need-stored-commit-requires-4
 stored-commit-requires-4 c κs = search needs
 
 returns-4 : tie.Need-returns-4
-returns-4 c = commit-whole _ _ _ _ _ (c .before .before .before .before .commit-length .ensures .0) (c .stored-commit4 .ensures)
+returns-4 c = commit-whole _ _ _ _ _ (sym (c .before .if4 .taken) ∙ c .before .before .before .before .before .before .commit-length .ensures .0) (c .stored-commit4 .ensures)
+
+stored-commit-requires-5 : tie.Need-stored-commit-requires-5
+stored-commit-requires-5 c κs = search needs
+
+returns-5 : tie.Need-returns-5
+returns-5 c = commit-whole _ _ _ _ _ (c .before .before .before .before .before .before .commit-length .ensures .0) (c .stored-commit5 .ensures)
 
 pub commit-of-spec : {M : Type 1} → statement M
 commit-of-spec =
@@ -55,5 +65,8 @@ commit-of-spec =
     sub-stored-commit
     stored-commit-requires-3
     returns-3
+    commit-length-requires-2
     stored-commit-requires-4
-    returns-4)
+    returns-4
+    stored-commit-requires-5
+    returns-5)

@@ -1,25 +1,22 @@
-use Rattle.table.proofs.Laws.{looked-own, looked-sized, enter-unsound, enter-unusable, enter-at, enter-absent}
+use mathlib.Core.Path.{refl}
+use Rattle.table.proofs.Laws.{looked-own, looked-sized, enter-unusable, enter-at, enter-absent}
 use borrow.Author.Needs.{needs}
 use Rattle.table.proofs.entry_of.Statement.{statement}
 use Rattle.table.proofs.entry_of.Tie as tie
 
-returns : tie.Need-returns
-returns c = enter-unsound _ _ _ (c .before .before .pre .right) (c .if1 .taken)
-
 is-usable-requires : tie.Need-is-usable-requires
 is-usable-requires c κs = search needs
 
-returns-2 : tie.Need-returns-2
-returns-2 c =
-    let k = c .before .before .before .before .before in
-    let q = c .before .before .before .if1 .left in
-    enter-unusable _ _ _ _ _ (k .pre .right) q (looked-own _ _ (k .args .h) (k .pre) q) (c .before .is-usable .ensures) (c .if2 .taken)
+returns : tie.Need-returns
+returns c =
+    let k = c .before .before .before .before in
+    enter-unusable _ _ _ _ _ (k .pre .right) refl (looked-own _ _ (k .args .h) (k .pre) refl) (c .before .is-usable .ensures) (c .if1 .taken)
 
 cast-find : tie.Need-cast-find
 cast-find c = search needs
 
 find-requires : tie.Need-find-requires
-find-requires c κs = let k = c .before .before .before .before .before .before in looked-sized _ _ (k .args .h) (k .pre) (c .before .before .before .before .if1 .left)
+find-requires c κs = let k = c .before .before .before .before .before in looked-sized _ _ (k .args .h) (k .pre) refl
 
 enum-known-k : tie.Need-enum-known-k
 enum-known-k c = search needs
@@ -27,20 +24,18 @@ enum-known-k c = search needs
 enum-told : tie.Need-enum-told
 enum-told c = search needs
 
+returns-2 : tie.Need-returns-2
+returns-2 c =
+    let k = c .before .before .before .before .before .before .before .before .before in
+    enter-at _ _ _ _ _ _ _ (k .pre .right) refl (looked-own _ _ (k .args .h) (k .pre) refl) (c .before .before .before .before .before .before .is-usable .ensures)
+    (c .before .before .before .before .before .if1 .left) (c .before .before .before .find .ensures) (c .before .k .given .1)
+
 returns-3 : tie.Need-returns-3
 returns-3 c =
-    let k = c .before .before .before .before .before .before .before .before .before .before in
-    let q = c .before .before .before .before .before .before .before .before .if1 .left in
-    enter-at _ _ _ _ _ _ _ (k .pre .right) q (looked-own _ _ (k .args .h) (k .pre) q) (c .before .before .before .before .before .before .is-usable .ensures)
-    (c .before .before .before .before .before .if2 .left) (c .before .before .before .find .ensures) (c .before .k .given .1)
-
-returns-4 : tie.Need-returns-4
-returns-4 c =
-    let k = c .before .before .before .before .before .before .before .before .before in
-    let q = c .before .before .before .before .before .before .before .if1 .left in
-    enter-absent _ _ _ _ _ _ (k .pre .right) q (looked-own _ _ (k .args .h) (k .pre) q) (c .before .before .before .before .before .is-usable .ensures)
-    (c .before .before .before .before .if2 .left) (c .before .before .find .ensures) (c .enum-told .given .1)
+    let k = c .before .before .before .before .before .before .before .before in
+    enter-absent _ _ _ _ _ _ (k .pre .right) refl (looked-own _ _ (k .args .h) (k .pre) refl) (c .before .before .before .before .before .is-usable .ensures)
+    (c .before .before .before .before .if1 .left) (c .before .before .find .ensures) (c .enum-told .given .1)
 
 pub entry-of-spec : {M : Type 1} → statement M
 entry-of-spec =
-    tie.close (tie.spec returns is-usable-requires returns-2 cast-find find-requires enum-known-k enum-told returns-3 returns-4)
+    tie.close (tie.spec is-usable-requires returns cast-find find-requires enum-known-k enum-told returns-2 returns-3)
