@@ -9,7 +9,7 @@ use native.Mathlib.Decide.{ℕ-discrete}
 use lib.ListN.{length}
 use borrow.Author.Tests.{eq-eqb}
 use Rattle.octets.specs.Octets.{Bytes, sameAddress}
-use Rattle.octets.specs.Scan.{firstBelow, if_then_else_}
+use Rattle.octets.specs.Scan.{firstBelow}
 use Rattle.octets.proofs.Scan.{clash, first-ext}
 use Rattle.octets.specs.declared.Found.{Found}
 use Rattle.octets.specs.declared.Found.the-variants as found
@@ -18,7 +18,7 @@ use Rattle.record.specs.Layout.{counted, noPeer}
 use Rattle.record.proofs.Laws.{shape-peer}
 use Rattle.soundness.proofs.Laws.{peer-unused, peer-in-use}
 use Rattle.rules.specs.Book.{Step}
-use Rattle.table.specs.Table.{Table, sound, encodeTable, decodeTable, placed, recounted, withPeer, slot, slots, inUse, belongs, look, lookBy, finds, freeSlot}
+use Rattle.table.specs.Table.{Table, sound, encodeTable, decodeTable, placed, recounted, withPeer, slot, slots, inUse, belongs, look, lookBy, finds}
 use Rattle.table.specs.declared.Entry.the-variants.{At}
 use Rattle.table.proofs.Laws.{entry-absent, sound-whole, peers-held}
 use Rattle.table.proofs.Fit.{bytes-placed}

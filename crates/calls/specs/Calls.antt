@@ -1,6 +1,6 @@
 -- THE CALLS: what each answers and the table that it leaves, as a definition of all that is handed over. Refusals stand in the order of their test; what
 -- is not refused is a step of the rule book, finished.
-use mathlib.Core.Bool.{Bool, true, false, not, _&&_}
+use mathlib.Core.Bool.{Bool, false, not, _&&_}
 use mathlib.Core.List.{List, []}
 use Prim.Native.Nat.{ℕ}
 use lib.Dec.{eqb, leb, ltb}
@@ -10,7 +10,6 @@ use Rattle.octets.specs.declared.Found.{Found}
 use Rattle.octets.specs.declared.Found.the-variants as found
 use Rattle.groups.specs.Groups.{freshOk}
 use Rattle.record.specs.declared.Header.{Header}
-use Rattle.record.specs.declared.Peer.{Peer}
 use Rattle.record.specs.declared.Settings.{Settings}
 use Rattle.record.specs.Layout.{groupsOf, noPeer}
 use Rattle.table.specs.Table.{Table, decodeTable, slots, slot, freeSlot, lookBy, sound, entry}

@@ -1,11 +1,14 @@
 // The ladders of the rule book: what a frame calls for. Only reads, and nothing is compared before it is asked.
 ghost use mathlib.Core.Path.{_≡_};
 ghost use mathlib.Core.Bool.{_&&_, not};
-ghost use Prim.Native.Nat.{_*_, _≤_};
+ghost use Prim.Native.Nat.{_≤_};
+ghost use lib.Dec.{eqb};
 ghost use lib.ListN.{length, take};
 ghost use Rattle.octets.specs.Octets.{part, same};
+ghost use Rattle.octets.specs.Scan.{if_then_else_};
 ghost use Rattle.groups.specs.Groups.{width, scalarLength, freshFor};
 ghost use Rattle.record.specs.Layout.{decodePeer, recordSize};
+ghost use Rattle.rules.specs.declared.Act.the-variants.{Drop};
 ghost use Rattle.rules.specs.Book.{linkedWith, commitIdle, commitCommitted, commitConfirmed, confirmCommitted, confirmConfirmed, confirmLinked, commitAct, confirmAct, frameAct};
 ghost use Rattle.message.specs.View.{messageOf};
 ghost use Rattle.rules.specs.Given.{terms, call, Stocked, Ready};
@@ -121,6 +124,16 @@ pub fn commit_idle(s: &[u8], g: Given, v: View, body: &[u8], groups: &[u16], fre
     Act::AnswerCommit
 }
 
+// "our group, …; other group, drop"
+fn for_ours(group: u16, ours: u16, act: Act) -> Act
+    ensures { λ r. ⌜ r ≡ (if eqb group ours then act else Drop) ⌝ }
+{
+    if group == ours {
+        return act;
+    }
+    Act::Drop
+}
+
 // "Commit in Committed"
 pub fn commit_committed(
     s: &[u8],
@@ -141,16 +154,10 @@ pub fn commit_committed(
     let address = g.address;
     let our_group = record::group_of(s);
     if status == 76 {
-        if group == our_group {
-            return Act::ReplyToken;
-        }
-        return Act::Drop;
+        return for_ours(group, our_group, Act::ReplyToken);
     }
     if status == 77 {
-        if group == our_group {
-            return Act::SwitchGroup;
-        }
-        return Act::Drop;
+        return for_ours(group, our_group, Act::SwitchGroup);
     }
     if status != 0 {
         return Act::Drop;

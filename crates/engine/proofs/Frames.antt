@@ -5,9 +5,9 @@ use mathlib.Core.List.{List}
 use Prim.Native.Nat.{ℕ, _≤_, _<_}
 use native.Mathlib.Omega.{arith}
 use lib.Dec.{eqb, ltb, lit≤}
-use lib.ListN.{length, take}
+use lib.ListN.{length}
 use lib.Seq.{take-all}
-use borrow.Author.Tests.{eq-eqb, ne-eqb, lt-ltb, le-ltb, eqb-true, not-false}
+use borrow.Author.Tests.{eq-eqb, ne-eqb, lt-ltb, le-ltb, eqb-true}
 use Rattle.octets.specs.Octets.{Bytes, part}
 use Rattle.octets.specs.Scan.{if_then_else_}
 use Rattle.octets.specs.declared.Found.{Found}
@@ -23,18 +23,18 @@ use Rattle.table.specs.declared.Entry.the-variants as entry-is
 use Rattle.rules.specs.declared.Given.{Given}
 use Rattle.rules.specs.Message.{Message}
 use Rattle.rules.specs.declared.Said.{Said}
-use Rattle.rules.specs.Book.{_is_, Terms, Call, Step, onFrame}
+use Rattle.rules.specs.Book.{_is_, Terms, Step, onFrame}
 use Rattle.rules.specs.Given.{terms, call}
 use Rattle.rules.specs.Said.{Does, saying}
 use Rattle.rule_laws.proofs.Slots.{frame-seated}
 use Rattle.message.specs.declared.View.{View}
-use Rattle.message.specs.View.{confirmView, view, messageOf, message}
+use Rattle.message.specs.View.{view, messageOf, message}
 use Rattle.answers.specs.declared.Answer.{Answer}
 use Rattle.answers.specs.declared.Refusal.{Refusal}
 use Rattle.answers.specs.declared.Refusal.the-variants as why
 use Rattle.answers.specs.declared.Turn.{Turn}
 use Rattle.answers.specs.declared.Turn.the-variants.{Refused, Go}
-use Rattle.answers.specs.Answers.{Leaves, Left, refuse, seating, refused, said, answered, finishAt, finishes}
+use Rattle.answers.specs.Answers.{Leaves, refuse, seating, refused, said, answered, finishAt, finishes}
 use Rattle.answers.proofs.Laws.{clashed, turned-refused, turned-go}
 use Rattle.calls.specs.Calls.{termsOf, brings, admitFrame, frameTurn, frameStep, receives}
 use Rattle.engine.specs.declared.Admitted.{Admitted}

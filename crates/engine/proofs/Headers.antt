@@ -1,7 +1,7 @@
 -- What was loaded and tested once: the header's groups and slots, the fresh commits, and what an address came to.
 use mathlib.Core.Path.{_≡_, refl, sym, ap, _∙_, subst}
 use mathlib.Core.Logic.{_⊎_, inl, inr}
-use mathlib.Core.Bool.{Bool, true, false, not}
+use mathlib.Core.Bool.{true}
 use mathlib.Core.List.{List}
 use Prim.Native.Nat.{ℕ, _+_, _-_, _*_, _≤_, _<_}
 use native.Mathlib.Omega.{arith}
@@ -22,7 +22,7 @@ use Rattle.record.proofs.Laws.{ShapeRun, ShapePeer, shape-peer}
 use Rattle.soundness.specs.Soundness.{headerOk, runOk, peerOk}
 use Rattle.soundness.proofs.Laws.{header-form, groups-form, run-states, run-is-committed, run-is-confirmed, run-unused, peer-in-use, peer-unused}
 use Rattle.table.specs.Table as table
-use Rattle.table.specs.Table.{size, decodeTable, slots, slot, lookBy, sound, entry, Sized, Enters}
+use Rattle.table.specs.Table.{size, decodeTable, slots, slot, sound, entry, Sized, Enters}
 use Rattle.table.specs.declared.Entrance.{Entrance}
 use Rattle.table.specs.declared.Entry.{Entry}
 use Rattle.table.specs.declared.Entry.the-variants as entry-is

@@ -2,18 +2,16 @@
 use mathlib.Core.Path.{_≡_, refl, sym, ap, _∙_, subst}
 use mathlib.Core.Bool.{Bool, true, false, not, _&&_}
 use mathlib.Core.List.{List}
-use Prim.Native.Nat.{ℕ, _≤_}
+use Prim.Native.Nat.{ℕ}
 use native.Mathlib.Omega.{arith}
-use lib.Dec.{eqb}
 use lib.ListN.{length, replicate}
-use borrow.Author.Tests.{eq-eqb, ne-eqb, not-true, not-false}
+use borrow.Author.Tests.{eq-eqb, ne-eqb}
 use Rattle.octets.specs.Octets.{Bytes}
 use Rattle.octets.specs.Scan.{if_then_else_, isNothing}
 use Rattle.octets.specs.declared.Found.{Found}
 use Rattle.octets.specs.declared.Found.the-variants as found
 use Rattle.groups.specs.Groups.{width, freshOk}
 use Rattle.record.specs.declared.Header.{Header}
-use Rattle.record.specs.declared.Peer.{Peer}
 use Rattle.record.specs.declared.Settings.{Settings}
 use Rattle.record.specs.Layout.{groupsOf, decodePeer, recordSize, noPeer, noRun}
 use Rattle.record.proofs.Windows.{no-peer-left}
@@ -25,7 +23,7 @@ use Rattle.table.specs.declared.Entry.the-variants as entry-is
 use Rattle.rules.specs.declared.Given.{Given}
 use Rattle.rules.specs.declared.Said.{Said}
 use Rattle.rules.specs.declared.Frames.the-variants as frames
-use Rattle.rules.specs.Book.{factory, hasRun, Terms, Step, onStart}
+use Rattle.rules.specs.Book.{factory, hasRun, onStart}
 use Rattle.rules.specs.Given.{terms, call}
 use Rattle.rules.specs.Said.{Does, sayingFrames}
 use Rattle.rule_laws.proofs.Slots.{start-refused, start-seated}

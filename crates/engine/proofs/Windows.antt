@@ -1,8 +1,8 @@
 -- A step in a slot, and the end of a call.
 use mathlib.Core.Path.{_≡_, refl, sym, ap, _∙_, subst}
-use mathlib.Core.Bool.{Bool, true, false}
+use mathlib.Core.Bool.{false}
 use mathlib.Core.List.{List}
-use Prim.Native.Nat.{ℕ, _+_, _-_, _*_, _≤_, _<_}
+use Prim.Native.Nat.{ℕ, _+_, _-_, _*_}
 use native.Mathlib.Omega.{arith}
 use lib.ListN.{length}
 use borrow.Rule.Slice.PartMut.{putMid}
@@ -14,7 +14,7 @@ use Rattle.groups.specs.Groups.{width}
 use Rattle.record.specs.declared.Header.{Header}
 use Rattle.record.specs.declared.Peer.{Peer}
 use Rattle.record.specs.Layout.{decodePeer}
-use Rattle.table.specs.Table.{Table, size, decodeTable, slots, slot, lookBy, withPeer, recounted, encodeTable, standingOf, Changed}
+use Rattle.table.specs.Table.{size, decodeTable, slots, slot, lookBy, withPeer, recounted, encodeTable, standingOf, Changed}
 use Rattle.table.specs.declared.Standing.{Standing}
 use Rattle.table.proofs.Changed.{with-peer-decoded, changed}
 use Rattle.rules.specs.declared.Said.{Said}

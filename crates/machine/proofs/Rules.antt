@@ -1,5 +1,5 @@
 -- Performing what the ladder says is the rule.
-use mathlib.Core.Path.{_≡_, refl, sym, ap, _∙_, subst}
+use mathlib.Core.Path.{_≡_, refl, sym, _∙_, subst}
 use mathlib.Core.Bool.{Bool, true, false, not}
 use mathlib.Core.List.{List}
 use Prim.Native.Nat.{ℕ}
@@ -15,7 +15,7 @@ use Rattle.rules.specs.declared.Given.{Given}
 use Rattle.rules.specs.declared.Act.{Act}
 use Rattle.rules.specs.declared.Act.the-variants as act
 use Rattle.rules.specs.declared.Said.{Said}
-use Rattle.rules.specs.Book.{_is_, holds, Terms, Call, factory, silence, t0Due, frameAct, clockAct, startAct, refusing, endingLink, starting, repeatingCommit, confirmingAgain, perform, onFrame, onClock, onStart}
+use Rattle.rules.specs.Book.{_is_, holds, Terms, Call, silence, t0Due, frameAct, clockAct, startAct, refusing, endingLink, starting, repeatingCommit, confirmingAgain, perform, onFrame, onClock, onStart}
 use Rattle.rules.specs.Given.{terms, call, Able}
 use Rattle.rules.specs.Said.{Does, sayingRefused}
 use Rattle.rules.proofs.Branches.{holds-true, holds-false, answered-true, answered-false}

@@ -1,5 +1,4 @@
 // The rules: perform what the ladder says, in a record's own octets.
-ghost use mathlib.Core.Path.{_≡_};
 ghost use mathlib.Core.List.{[]};
 ghost use Rattle.groups.specs.Groups.{width};
 ghost use Rattle.record.specs.Layout.{decodePeer};

@@ -1,6 +1,5 @@
 -- Laws of the view of a frame and of its message.
 use mathlib.Core.Path.{_≡_, refl, sym, ap, _∙_, subst}
-use mathlib.Core.Bool.{Bool, true, false}
 use mathlib.Core.List.{List}
 use Prim.Native.Nat.{ℕ, _≤_}
 use native.Mathlib.Omega.{arith}
@@ -8,15 +7,13 @@ use native.Mathlib.Nat.{zero-add}
 use lib.Dec.{lit≤}
 use lib.ListN.{length, replicate, length-take}
 use Rattle.octets.specs.Octets.{part, put}
-use Rattle.octets.specs.Scan.{if_then_else_}
-use Rattle.groups.specs.Groups.{width}
 use Rattle.groups.proofs.Laws.{drop-zeros}
-use Rattle.frame.specs.Frame.{readBody, tokenOf, commitOf}
+use Rattle.frame.specs.Frame.{readBody, tokenOf}
 use Rattle.frame.specs.declared.Body.{Body}
 use Rattle.frame.specs.declared.Body.the-variants as body
 use Rattle.frame.proofs.Shapes.{commit-shape, token-request-shape}
 use Rattle.message.specs.declared.View.{View}
-use Rattle.message.specs.View.{viewOf, view, storedToken, commitIn}
+use Rattle.message.specs.View.{viewOf, view, storedToken}
 
 -- the shape that a body is of
 pub view-law : (B y : Body) (r : View) → B ≡ y → r ≡ viewOf y → r ≡ viewOf B

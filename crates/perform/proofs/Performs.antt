@@ -1,5 +1,5 @@
 -- Each act by its name: what the leaf function left and said is what the book says.
-use mathlib.Core.Path.{_≡_, refl, sym, ap, _∙_, subst}
+use mathlib.Core.Path.{_≡_, refl, sym, subst}
 use mathlib.Core.List.{List}
 use Prim.Native.Nat.{ℕ}
 use lib.ListN.{getD}
@@ -12,7 +12,7 @@ use Rattle.rules.specs.declared.Act.the-variants as act
 use Rattle.rules.specs.declared.Frame.{Frame}
 use Rattle.rules.specs.declared.Frames.the-variants.{One, Two}
 use Rattle.rules.specs.declared.Said.{Said}
-use Rattle.rules.specs.Book.{Terms, Call, Step, factory, commitFrame, tokenRequestFrame, groupRefusalFrame, confirmFrame, dropping, answering, refusing, abandoning, forming, switching, accepting, endingLink, starting, answeringCommit, confirmingCommit, replyingToken, repeatingCommit, repeatingRefusal, confirmingAgain, resendingBoth, hearingLast, hearingAgain, perform}
+use Rattle.rules.specs.Book.{Terms, Call, factory, commitFrame, tokenRequestFrame, groupRefusalFrame, confirmFrame, dropping, answering, refusing, abandoning, forming, switching, accepting, endingLink, starting, answeringCommit, confirmingCommit, replyingToken, repeatingCommit, repeatingRefusal, confirmingAgain, resendingBoth, hearingLast, hearingAgain, perform}
 use Rattle.rules.specs.Said.{Does, sayingFrames, sayingRefused}
 
 module _ (t : Terms) (c : Call) (p : Peer) (m : Message) (a : Act) (x : Said) (left : List ℕ) where

@@ -2,7 +2,7 @@
 use mathlib.Core.Path.{_≡_, refl, sym, ap, _∙_, subst}
 use mathlib.Core.Bool.{false}
 use mathlib.Core.List.{List}
-use Prim.Native.Nat.{ℕ, _+_, _^_, _≤_, _<_}
+use Prim.Native.Nat.{ℕ, _^_, _≤_, _<_}
 use native.Mathlib.Omega.{arith}
 use lib.Dec.{lit<}
 use lib.ListN.{length, take, drop, replicate, length-replicate}
@@ -13,7 +13,6 @@ use Rattle.groups.specs.Groups.{width}
 use Rattle.record.specs.Codec.{cut, total}
 use Rattle.record.specs.Layout.{runWidths, runOf, decodeRun, decodePeer, runSize, recordSize, noRun}
 use Rattle.record.specs.declared.Run.{Run}
-use Rattle.record.specs.declared.Peer.{Peer}
 use Rattle.record.proofs.Windows.{Laid, laid, laid-put, no-run-left, run-window, run-left, used-left, address-left}
 use Rattle.rules.specs.declared.Frame.{Frame}
 use Rattle.rules.specs.declared.Frames.{Frames}

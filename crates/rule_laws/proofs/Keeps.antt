@@ -1,37 +1,37 @@
 -- What an act makes of a record that fits and has the form, with sound inputs, fits and has the form too, or is the free one, and is the address's.
 use mathlib.Core.Path.{_≡_, refl, sym, ap, _∙_, subst}
-use mathlib.Core.Bool.{Bool, true, false, not, _&&_, _||_}
+use mathlib.Core.Bool.{Bool, true, false, not, _||_}
 use mathlib.Core.List.{List, [], _∷_}
-use mathlib.Core.Logic.{_⊎_, inl, inr}
+use mathlib.Core.Logic.{inl, inr}
 use Prim.Native.Nat.{ℕ, zero, suc, _+_, _-_, _*_, _/_, _%_, _^_, _≤_, _<_}
 use native.Mathlib.Omega.{arith}
 use native.Mathlib.Decide.{ℕ-discrete}
 use native.Mathlib.Nat.{mod-lt, zero-div, one-le-pow, div-lt-iff-lt-mul, mul-comm, lt-div-mul-add, mul-le-mul-right, add-mul, pow-suc}
 use lib.Pow.{pow-add}
-use lib.Dec.{eqb, ltb, lit<, lit≤}
+use lib.Dec.{eqb, lit<, lit≤}
 use lib.ListN.{length, drop, getD, replicate, length-replicate}
-use borrow.Author.Tests.{eqb-true, eqb-false, eq-eqb, ne-eqb, not-true}
-use Rattle.octets.specs.Scan.{if_then_else_, isNothing}
-use Rattle.octets.specs.Octets.{Bytes, allZero, higher, same}
+use borrow.Author.Tests.{eqb-false, eq-eqb, ne-eqb, not-true}
+use Rattle.octets.specs.Scan.{isNothing}
+use Rattle.octets.specs.Octets.{Bytes, allZero}
 use Rattle.octets.specs.declared.Found.{Found}
 use Rattle.octets.specs.declared.Found.the-variants.{At, Nothing}
 use Rattle.octets.proofs.Laws.{length-part, bytes-part}
-use Rattle.octets.proofs.Scan.{clash, cases, and-left, and-right}
+use Rattle.octets.proofs.Scan.{clash, and-left, and-right}
 use Rattle.octets.proofs.Tests.{zero-zeros}
-use Rattle.groups.specs.Groups.{width, known, listed, commitLength, freshAt, freshFor, firstLeft, indexOf, place, placeFrom, placeOr0, mark, marked}
+use Rattle.groups.specs.Groups.{width, known, listed, freshAt, freshFor, indexOf, place, placeFrom, placeOr0, mark, marked}
 use Rattle.groups.specs.declared.Choice.the-variants as choice
 use Rattle.groups.proofs.Laws.{chosen, place-at, listed-place}
 use Rattle.record.specs.declared.Run.{Run}
 use Rattle.record.specs.declared.Link.{Link}
 use Rattle.record.specs.declared.Peer.{Peer}
 use Rattle.record.specs.Layout.{noRun, noLink, noPeer}
-use Rattle.record.proofs.Laws.{FitRun, FitLink, FitPeer, ShapeRun, ShapeLink, ShapePeer, shape-peer, fit-no-run, fit-no-link, fit-no-peer}
-use Rattle.soundness.specs.Soundness.{usable, allKnown, eachOnce, highSync, commitOk, tokenOk, rejectedOk, committedOk, confirmedOk, runOk, finishedOk, linkOk, inUseOk, peerOk}
-use Rattle.soundness.proofs.Laws.{Token, Committed, Confirmed, Finished, InUse, no-run-ok, no-link-ok, no-peer-ok, run-unused, peer-unused, run-is-committed, committed-is-run, run-is-confirmed, confirmed-is-run, run-states, link-is-finished, finished-is-link, peer-in-use, in-use-peer, listed-known}
+use Rattle.record.proofs.Laws.{FitRun, FitLink, FitPeer, shape-peer, fit-no-run, fit-no-link, fit-no-peer}
+use Rattle.soundness.specs.Soundness.{usable, allKnown, eachOnce, highSync, commitOk, tokenOk, rejectedOk, committedOk, confirmedOk, runOk, linkOk, peerOk}
+use Rattle.soundness.proofs.Laws.{Token, Committed, Confirmed, Finished, no-run-ok, no-link-ok, no-peer-ok, run-unused, peer-unused, run-is-committed, committed-is-run, run-is-confirmed, confirmed-is-run, run-states, link-is-finished, finished-is-link, peer-in-use, in-use-peer, listed-known}
 use Rattle.rules.specs.declared.Frames.{Frames}
-use Rattle.rules.specs.declared.Frames.the-variants.{None, One, Two}
-use Rattle.rules.specs.Parts.{withT0, counting, withToken, switched, heardAgain, withRun, withLink}
-use Rattle.rules.specs.Book.{Timing, Step, commitFrame, confirmFrame, deadline, delay, setT0, sending, answering, settled, abandoning, retransmitting, dropping, supersede, formedRun, forming, linkOfRun, accepting, endingLink, startedRun, starting, switching, replyingToken}
+use Rattle.rules.specs.declared.Frames.the-variants.{One}
+use Rattle.rules.specs.Parts.{counting, withToken, switched, heardAgain, withRun, withLink}
+use Rattle.rules.specs.Book.{Timing, Step, commitFrame, deadline, delay, setT0, sending, answering, settled, abandoning, retransmitting, dropping, supersede, formedRun, forming, linkOfRun, accepting, endingLink, startedRun, starting, switching, replyingToken}
 use Rattle.rules.specs.Message.{Message}
 use Rattle.rule_laws.proofs.Outcomes.{whether, switch-outcomes, repeat-outcomes, drop-outcomes, settle-outcomes}
 

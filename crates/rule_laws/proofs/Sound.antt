@@ -1,16 +1,16 @@
 -- EVERY ACT KEEPS A RECORD SOUND, and so every rule does.
-use mathlib.Core.Path.{_≡_, refl, sym, ap, _∙_, subst}
+use mathlib.Core.Path.{_≡_, refl, sym, subst}
 use mathlib.Core.Bool.{Bool, true, false}
 use mathlib.Core.List.{List}
 use Prim.Native.Nat.{ℕ, zero, suc, _+_, _≤_, _<_}
 use native.Mathlib.Omega.{arith}
 use lib.Dec.{lit<, lit≤}
-use lib.ListN.{length, getD, replicate, length-replicate}
+use lib.ListN.{length, replicate, length-replicate}
 use Rattle.octets.specs.Scan.{if_then_else_}
 use Rattle.octets.specs.Octets.{Bytes}
 use Rattle.octets.proofs.Scan.{clash}
 use Rattle.octets.proofs.Tests.{zero-zeros}
-use Rattle.groups.specs.Groups.{width, freshAt, freshFor, listed}
+use Rattle.groups.specs.Groups.{width, listed}
 use Rattle.record.specs.declared.Peer.{Peer}
 use Rattle.soundness.specs.Soundness.{highSync}
 use Rattle.soundness.proofs.Laws.{run-states, run-is-committed, link-is-finished}
@@ -18,7 +18,7 @@ use Rattle.rules.specs.Message.{Message}
 use Rattle.rules.specs.declared.Act.{Act}
 use Rattle.rules.specs.declared.Act.the-variants as act
 use Rattle.rules.specs.Book.{_is_, holds, Terms, Call, Step, silence, t0Due, perform, refusing, answeringCommit, confirmingCommit, repeatingCommit, repeatingRefusal, confirmingAgain, resendingBoth, hearingAgain, hearingLast, commitAct, confirmAct, clockAct, onFrame, onClock, onStart}
-use Rattle.rules.specs.Asked.{NoRun, Offer, Asked, refuse-group, ask-token, no-slot, begin, answer-commit, confirm-commit, reply-token, switch-group, repeat-commit, repeat-refusal, resend-both, confirm-again, give-up, accept, hear-again, hear-last, end-link, drop}
+use Rattle.rules.specs.Asked.{NoRun, Asked, refuse-group, ask-token, no-slot, begin, answer-commit, confirm-commit, reply-token, switch-group, repeat-commit, repeat-refusal, resend-both, confirm-again, give-up, accept, hear-again, hear-last, end-link, drop}
 use Rattle.rules.proofs.Ladders.{start-asked, commit-asked, confirm-asked, frame-asked, clock-asked}
 use Rattle.rule_laws.proofs.Outcomes.{repeat-outcomes}
 use Rattle.rule_laws.proofs.Keeps.{Place, Lists, Stored, Stock, Heard, Kept, Keeps, parts, listed-at, fresh-stored, heard-stored, drop-keeps, answer-keeps, abandon-keeps, end-keeps, form-keeps, accept-keeps, hear-keeps, repeat-keeps, raised-keeps, start-keeps, switch-keeps, reply-keeps}

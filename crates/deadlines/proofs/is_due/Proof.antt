@@ -1,6 +1,6 @@
 use lib.Dec.{ltb}
 use native.Mathlib.Omega.{arith}
-use Prim.Native.Nat.{ℕ, _<_, _+_, _-_, _%_, _^_}
+use Prim.Native.Nat.{ℕ, _+_, _-_, _%_, _^_}
 use mathlib.Core.Path.{_≡_, ap}
 use Rattle.rules.specs.Book.{due}
 use borrow.Author.Needs.{needs}

@@ -1,6 +1,4 @@
-use mathlib.Core.Path.{_≡_}
 use borrow.Author.Needs.{needs}
-use Rattle.rules.specs.declared.Given.{Given}
 use Rattle.engine.proofs.Starts.{given-law}
 use Rattle.engine.proofs.given_of.Statement.{statement}
 use Rattle.engine.proofs.given_of.Tie as tie

@@ -1,7 +1,6 @@
 use Rattle.message.specs.declared.View.{View}
 use Rattle.answers.specs.declared.Turn.the-variants as turn-is
-use Rattle.engine.specs.declared.Admitted.{Admitted}
-use mathlib.Core.Path.{_≡_, ap}
+use mathlib.Core.Path.{ap}
 use borrow.Author.Needs.{needs}
 use Rattle.engine.proofs.refuse_frame.Statement.{statement}
 use Rattle.engine.proofs.refuse_frame.Tie as tie
