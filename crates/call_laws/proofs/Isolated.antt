@@ -34,7 +34,7 @@ use Rattle.answers.proofs.Laws.{clashed}
 use Rattle.answers.proofs.Ending.{Turned, denied, done, turn-ends}
 use Rattle.writer.specs.Writer.{writesParts, writesRecordBy, writesRecord}
 use Rattle.calls.specs.Calls.{termsOf, initializes, admitStart, startTurn, startStep, initiates, killTurn, killStep, kills, admitFrame, frameTurn, frameStep, receives, dueSlot, clockStep, expires}
-use Rattle.call_laws.specs.Alike.{Alike}
+use Rattle.call_laws.specs.Alike.{SameFor, Alike}
 use Rattle.call_laws.proofs.Good.{initiate-good, kill-good, receive-good}
 use Rattle.call_laws.proofs.Ends.{Came, came, unsound, unusable, lacks, has, finish-answer, said-not, dueLeft, due-answer, takes, clock-ends}
 
@@ -57,21 +57,21 @@ slot-of : (T : Table) (a : List ℕ) (k : ℕ) → finds T a ≡ found.At k → 
 unfolding look lookBy
 slot-of T a k e = ap (lookBy T) (sym e)
 
-module _ (t u a : List ℕ) (A : Alike t u a) where
+module _ (t u a : List ℕ) (S : SameFor t u a) where
   same-used : look (decodeTable t) a .used ≡ look (decodeTable u) a .used
-  same-used = ap (λ (p : Peer). p .used) (A .peer)
+  same-used = ap (λ (p : Peer). p .used) (S .peer)
 
   same-usable : usable (decodeTable t .header .own) a ≡ usable (decodeTable u .header .own) a
-  same-usable = ap (λ (o : List ℕ). usable o a) (A .own)
+  same-usable = ap (λ (o : List ℕ). usable o a) (S .own)
 
   both : (k j : ℕ) → finds (decodeTable t) a ≡ found.At k → finds (decodeTable u) a ≡ found.At j → Met t u a (entry-is.At k) (entry-is.At j)
-  both k j f h = have-both (slot-of (decodeTable t) a k f ∙ A .peer ∙ sym (slot-of (decodeTable u) a j h))
+  both k j f h = have-both (slot-of (decodeTable t) a k f ∙ S .peer ∙ sym (slot-of (decodeTable u) a j h))
 
   met : (E F : Entry) → Came t a E → Came u a F → Met t u a E F
-  met E F (unsound s) d = absurd (clash (A .sound₁) s)
-  met E F (unusable s q) (unsound s₁) = absurd (clash (A .sound₂) s₁)
-  met E F (lacks s q f) (unsound s₁) = absurd (clash (A .sound₂) s₁)
-  met E F (has s q f) (unsound s₁) = absurd (clash (A .sound₂) s₁)
+  met E F (unsound s) d = absurd (clash (S .sound₁) s)
+  met E F (unusable s q) (unsound s₁) = absurd (clash (S .sound₂) s₁)
+  met E F (lacks s q f) (unsound s₁) = absurd (clash (S .sound₂) s₁)
+  met E F (has s q f) (unsound s₁) = absurd (clash (S .sound₂) s₁)
   met E F (unusable s q) (unusable s₁ q₁) = neither
   met E F (unusable s q) (lacks s₁ q₁ f) = absurd (clash (same-usable ∙ q₁) q)
   met E F (unusable s q) (has s₁ q₁ f) = absurd (clash (same-usable ∙ q₁) q)
@@ -121,15 +121,15 @@ pub record Isolated (a : List ℕ) (l m : Left) : Type 0 where
   pub answer : l .answer ≡ m .answer
   pub peer : look (decodeTable (l .table)) a ≡ look (decodeTable (m .table)) a
 
-isolated : (g h : Found → Step) (t u a : List ℕ) (w x : Turn) → Alike t u a → Paired g h w x → Turned w g t a → Turned x h u a → Isolated a (turned w g t a) (turned x h u a)
-isolated g h t u a w x A p m n =
+isolated : (g h : Found → Step) (t u a : List ℕ) (w x : Turn) → SameFor t u a → Paired g h w x → Turned w g t a → Turned x h u a → Isolated a (turned w g t a) (turned x h u a)
+isolated g h t u a w x S p m n =
     let e = paired-answer g h t u a w x p in
-    record { answer = e; peer = paired-record g h t u a w x p e (A .peer) m n }
+    record { answer = e; peer = paired-record g h t u a w x p e (S .peer) m n }
 
 -- ---- what the rules are told is the same
 
 terms-same : (t u a : List ℕ) → Alike t u a → (f k : Found) → isNothing f ≡ isNothing k → termsOf (decodeTable t) f ≡ termsOf (decodeTable u) k
-terms-same t u a A f k n = go _ _ _ _ _ _ _ _ _ _ (A .own) (A .groups) (A .crowded) n (A .full)
+terms-same t u a A f k n = go _ _ _ _ _ _ _ _ _ _ (A .same .own) (A .same .groups) (A .crowded) n (A .full)
   where
     go : (o p g h : List ℕ) (c d x y v w : Bool) → o ≡ p → g ≡ h → c ≡ d → x ≡ y → v ≡ w
         → _≡_ {A = Terms} (record { own = o; groups = g; timing = factory; crowded = c; full = x && v }) (record { own = p; groups = h; timing = factory; crowded = d; full = y && w })
@@ -153,15 +153,15 @@ module _ (t u a : List ℕ) (A : Alike t u a) where
       → Paired (λ f. startStep (decodeTable t) f a time fresh) (λ f. startStep (decodeTable u) f a time fresh) (startTurn E t fresh) (startTurn F u fresh)
   unfolding startTurn lookBy
   start-paired time fresh E F neither = both-refuse
-  start-paired time fresh E F lack-both = admit-start-paired _ _ (decodeTable t) (decodeTable u) found.Nothing found.Nothing fresh (A .groups) refl (start-same time fresh found.Nothing found.Nothing refl refl)
+  start-paired time fresh E F lack-both = admit-start-paired _ _ (decodeTable t) (decodeTable u) found.Nothing found.Nothing fresh (A .same .groups) refl (start-same time fresh found.Nothing found.Nothing refl refl)
   start-paired time fresh E F (have-both {k} {j} q) =
-      admit-start-paired _ _ (decodeTable t) (decodeTable u) (found.At k) (found.At j) fresh (A .groups) q (start-same time fresh (found.At k) (found.At j) refl q)
+      admit-start-paired _ _ (decodeTable t) (decodeTable u) (found.At k) (found.At j) fresh (A .same .groups) q (start-same time fresh (found.At k) (found.At j) refl q)
 
 pub initiate-isolated : (t u a : List ℕ) (time : ℕ) (fresh : List ℕ) → Bytes t → Bytes u → length a ≡ 6 → Bytes a → time < 2 ^ 32 → Bytes fresh → Alike t u a
     → Isolated a (initiates t a time fresh) (initiates u a time fresh)
 unfolding initiates
 initiate-isolated t u a time fresh bt bu la ba ht bf A =
-    isolated _ _ t u a _ _ A (start-paired t u a A time fresh (entry t a) (entry u a) (met t u a A (entry t a) (entry u a) (came t a) (came u a)))
+    isolated _ _ t u a _ _ (A .same) (start-paired t u a A time fresh (entry t a) (entry u a) (met t u a (A .same) (entry t a) (entry u a) (came t a) (came u a)))
     (turn-ends _ _ t a bt la ba (λ f e. initiate-good t a time fresh f bt la ba ht bf e))
     (turn-ends _ _ u a bu la ba (λ f e. initiate-good u a time fresh f bu la ba ht bf e))
 
@@ -173,10 +173,10 @@ kill-paired t u a E F neither = both-refuse
 kill-paired t u a E F lack-both = both-refuse
 kill-paired t u a E F (have-both q) = both-go refl
 
-pub kill-isolated : (t u a : List ℕ) → Bytes t → Bytes u → length a ≡ 6 → Bytes a → Alike t u a → Isolated a (kills t a) (kills u a)
+pub kill-isolated : (t u a : List ℕ) → Bytes t → Bytes u → length a ≡ 6 → Bytes a → SameFor t u a → Isolated a (kills t a) (kills u a)
 unfolding kills
-kill-isolated t u a bt bu la ba A =
-    isolated _ _ t u a _ _ A (kill-paired t u a (entry t a) (entry u a) (met t u a A (entry t a) (entry u a) (came t a) (came u a)))
+kill-isolated t u a bt bu la ba S =
+    isolated _ _ t u a _ _ S (kill-paired t u a (entry t a) (entry u a) (met t u a S (entry t a) (entry u a) (came t a) (came u a)))
     (turn-ends _ _ t a bt la ba (λ f e. kill-good t a f bt la ba e))
     (turn-ends _ _ u a bu la ba (λ f e. kill-good u a f bu la ba e))
 
@@ -196,7 +196,7 @@ module _ (t u a : List ℕ) (A : Alike t u a) (time : ℕ) (frame fresh expected
   frame-same : (f k : Found) → isNothing f ≡ isNothing k → lookBy (decodeTable t) f ≡ lookBy (decodeTable u) k
       → frameStep (decodeTable t) f a time frame fresh expected verdict ≡ frameStep (decodeTable u) k a time frame fresh expected verdict
   unfolding frameStep
-  frame-same f k n q = let e = terms-same t u a A f k n in let g = A .groups in rw (q, e, g)
+  frame-same f k n q = let e = terms-same t u a A f k n in let g = A .same .groups in rw (q, e, g)
 
   frame-paired : (E F : Entry) → Met t u a E F
       → Paired (λ f. frameStep (decodeTable t) f a time frame fresh expected verdict) (λ f. frameStep (decodeTable u) f a time frame fresh expected verdict)
@@ -204,10 +204,10 @@ module _ (t u a : List ℕ) (A : Alike t u a) (time : ℕ) (frame fresh expected
   unfolding frameTurn lookBy
   frame-paired E F neither = both-refuse
   frame-paired E F lack-both =
-      admit-frame-paired _ _ (decodeTable t) (decodeTable u) found.Nothing found.Nothing frame fresh expected verdict (A .groups)
+      admit-frame-paired _ _ (decodeTable t) (decodeTable u) found.Nothing found.Nothing frame fresh expected verdict (A .same .groups)
       (frame-same found.Nothing found.Nothing refl refl)
   frame-paired E F (have-both {k} {j} q) =
-      admit-frame-paired _ _ (decodeTable t) (decodeTable u) (found.At k) (found.At j) frame fresh expected verdict (A .groups)
+      admit-frame-paired _ _ (decodeTable t) (decodeTable u) (found.At k) (found.At j) frame fresh expected verdict (A .same .groups)
       (frame-same (found.At k) (found.At j) refl q)
 
 pub receive-isolated : (t u a : List ℕ) (time : ℕ) (frame fresh expected : List ℕ) (verdict : ℕ) → Bytes t → Bytes u → length a ≡ 6 → Bytes a → time < 2 ^ 32
@@ -215,7 +215,7 @@ pub receive-isolated : (t u a : List ℕ) (time : ℕ) (frame fresh expected : L
     → Isolated a (receives t a time frame fresh expected verdict) (receives u a time frame fresh expected verdict)
 unfolding receives
 receive-isolated t u a time frame fresh expected verdict bt bu la ba ht br bf be hv A =
-    isolated _ _ t u a _ _ A (frame-paired t u a A time frame fresh expected verdict (entry t a) (entry u a) (met t u a A (entry t a) (entry u a) (came t a) (came u a)))
+    isolated _ _ t u a _ _ (A .same) (frame-paired t u a A time frame fresh expected verdict (entry t a) (entry u a) (met t u a (A .same) (entry t a) (entry u a) (came t a) (came u a)))
     (turn-ends _ _ t a bt la ba (λ f e. receive-good t a time frame fresh expected verdict f bt la ba ht br bf be hv e))
     (turn-ends _ _ u a bu la ba (λ f e. receive-good u a time frame fresh expected verdict f bu la ba ht br bf be hv e))
 
@@ -272,10 +272,10 @@ write-record-met t u a sequence value out E F g neither = refl
 write-record-met t u a sequence value out E F g lack-both = refl
 write-record-met t u a sequence value out E F g (have-both q) = rw (g, q)
 
-pub write-record-isolated : (t u a : List ℕ) (sequence : ℕ) (value out : List ℕ) → Alike t u a → writesRecord t a sequence value out ≡ writesRecord u a sequence value out
+pub write-record-isolated : (t u a : List ℕ) (sequence : ℕ) (value out : List ℕ) → SameFor t u a → writesRecord t a sequence value out ≡ writesRecord u a sequence value out
 unfolding writesRecord
-write-record-isolated t u a sequence value out A =
-    write-record-met t u a sequence value out (entry t a) (entry u a) (A .groups) (met t u a A (entry t a) (entry u a) (came t a) (came u a))
+write-record-isolated t u a sequence value out S =
+    write-record-met t u a sequence value out (entry t a) (entry u a) (S .groups) (met t u a S (entry t a) (entry u a) (came t a) (came u a))
 
 pub write-parts-isolated : (t u : List ℕ) (sequence status group counter : ℕ) (token rest out : List ℕ) → sound t ≡ true → sound u ≡ true
     → groupsOf (decodeTable t .header) ≡ groupsOf (decodeTable u .header) → writesParts t sequence status group counter token rest out ≡ writesParts u sequence status group counter token rest out

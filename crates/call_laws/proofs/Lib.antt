@@ -4,4 +4,5 @@ pub mod Ends
 pub mod Refuses
 pub mod Sound
 pub mod Isolated
+pub mod Isolation
 pub mod Sends

@@ -13,12 +13,16 @@ pub record SoundTable (t : List ℕ) : Type 0 where
   pub used : decodeTable t .header .used ≡ usedCount (decodeTable t)
   pub opened : decodeTable t .header .opened ≡ openCount (decodeTable t)
 
--- two sound tables that are alike for the address a; where neither has a record for it, both records are the free one
-pub record Alike (t u a : List ℕ) : Type 0 where
+-- two sound tables that are the same for the address a: own address, groups, and its record; where neither has a record for it, both records are the free one
+pub record SameFor (t u a : List ℕ) : Type 0 where
   pub sound₁ : sound t ≡ true
   pub sound₂ : sound u ≡ true
   pub own : decodeTable t .header .own ≡ decodeTable u .header .own
   pub groups : groupsOf (decodeTable t .header) ≡ groupsOf (decodeTable u .header)
+  pub peer : look (decodeTable t) a ≡ look (decodeTable u) a
+
+-- and alike in what others' calls may change of it: "Open against the threshold, free slots"
+pub record Alike (t u a : List ℕ) : Type 0 where
+  pub same : SameFor t u a
   pub crowded : crowded (decodeTable t .header) ≡ crowded (decodeTable u .header)
   pub full : full (decodeTable t) ≡ full (decodeTable u)
-  pub peer : look (decodeTable t) a ≡ look (decodeTable u) a

@@ -1,4 +1,5 @@
 -- The definitions that the theorems cite.
 pub mod Causes
 pub mod Alike
+pub mod Isolation
 pub mod Writable
