@@ -21,7 +21,7 @@ use Rattle.rules.specs.declared.Frames.the-variants.{None, One, Two}
 use Rattle.rules.specs.Book.{Step}
 use Rattle.rules.specs.Book.{_is_, _isnt_, supersede}
 use Rattle.agreement.specs.Calls.{Call}
-use Rattle.agreement.specs.Story.{stockOf, someFrame, isConfirm, isFirstConfirm}
+use Rattle.agreement.specs.Story.{stockOf, someFrame, isConfirm, isFirstConfirm, isAccepted}
 use Rattle.agreement.specs.Sent.{Among, only, first, second}
 use Rattle.agreement.proofs.Rules.{SameRun, SameLink, Afresh, Hears, Verified, Does, quiet, informs, starts, switches, forms-fresh, forms-own, repeats, replies, repeats-both, repeats-confirm, accepts, abandons, ends, answers}
 
@@ -115,8 +115,9 @@ pub record Forming (gs : List ℕ) (c : Call) (o : Step) (d q : Commit) : Type 0
   pub own : d ≡ ownCommit (o .peer)
   pub peer : q ≡ peerCommit (o .peer)
 
-pub record Accepting (gs : List ℕ) (c : Call) (p : Peer) (d q : Commit) : Type 0 where
+pub record Accepting (gs : List ℕ) (c : Call) (p : Peer) (o : Step) (d q : Commit) : Type 0 where
   pub right : Verified gs c
+  pub event : isAccepted (o .event) ≡ true
   pub state : p .run .state ≡ 2
   pub own : d ≡ ownCommit p
   pub peer : q ≡ peerCommit p
@@ -126,7 +127,7 @@ pub record Did (gs : List ℕ) (c : Call) (p : Peer) (o : Step) (e : Act) : Type
   pub may : Guard e (view p)
   pub uses : (d : Commit) → Uses d e → (eqb (o .afresh) 0 ≡ false) × (record { group = o .afresh; octets = freshFor gs (stockOf c) (o .afresh) } ≡ d)
   pub forms : (d q : Commit) → Forms d q e → Forming gs c o d q
-  pub accepts : (d q : Commit) → Accepts d q e → Accepting gs c p d q
+  pub accepts : (d q : Commit) → Accepts d q e → Accepting gs c p o d q
   pub commits : (x : Frame) → Among x (o .frames) → isConfirm x ≡ false → eqb (x .status) 0 ≡ true → SendsCommit (ownCommit (o .peer)) e
   pub confirms : (x : Frame) → Among x (o .frames) → isConfirm x ≡ true → Over (o .peer) x e
 
@@ -303,7 +304,7 @@ module _ (gs : List ℕ) (c : Call) where
       may = view-confirmed (p .run) s refl refl refl;
       uses = λ d u. absurd u;
       forms = λ d q u. absurd u;
-      accepts = λ d r u. record { right = v; state = s; own = u .0; peer = u .1 };
+      accepts = λ d r u. record { right = v; event = refl; state = s; own = u .0; peer = u .1 };
       commits = λ x m i j. none-among m;
       confirms = λ x m i. none-among m;
     },

@@ -20,7 +20,7 @@ use Rattle.answers.specs.declared.Answer.{Answer}
 use Rattle.answers.specs.Answers.{said}
 use Rattle.calls.specs.Calls.{killStep}
 use Rattle.agreement.specs.Calls.{Call, kill, receive, left, done, tableAfter}
-use Rattle.agreement.specs.Story.{Pair, Story, isFrame, isConfirm, usesAfresh, usedAfresh, formsPair, groupsIn}
+use Rattle.agreement.specs.Story.{Pair, Story, isFrame, isConfirm, isAccepted, usesAfresh, usedAfresh, formsPair, groupsIn}
 use Rattle.agreement.specs.Sent.{Among}
 use Rattle.agreement.proofs.Rules.{Hears, Verified, verified}
 use Rattle.agreement.proofs.Shows.{RunShows, no-run, unpaired, paired, Shows, shows-state, shows-whole, zero-two, one-two}
@@ -44,10 +44,17 @@ pub record FormsHere (gs : List ℕ) (c : Call) (d : Bool) (r : Answer) (b : Lis
   pub own : x ≡ ownCommit q
   pub peer : y ≡ peerCommit q
 
-pub record AcceptsHere (gs : List ℕ) (c : Call) (d : Bool) (b : List ℕ) (p : Peer) (x y : Commit) : Type 0 where
+pub record UsesHere (gs : List ℕ) (c : Call) (d : Bool) (r : Answer) (b : List ℕ) (x : Commit) : Type 0 where
+  pub done : d ≡ true
+  pub to : sameAddress (r .address) b ≡ true
+  pub afresh : usesAfresh r ≡ true
+  pub used : usedAfresh gs c r ≡ x
+
+pub record AcceptsHere (gs : List ℕ) (c : Call) (d : Bool) (r : Answer) (b : List ℕ) (p : Peer) (x y : Commit) : Type 0 where
   pub done : d ≡ true
   pub came : From b c
   pub right : Verified gs c
+  pub event : isAccepted (r .event) ≡ true
   pub state : p .run .state ≡ 2
   pub own : x ≡ ownCommit p
   pub peer : y ≡ peerCommit p
@@ -55,9 +62,9 @@ pub record AcceptsHere (gs : List ℕ) (c : Call) (d : Bool) (b : List ℕ) (p :
 pub record Deed (gs : List ℕ) (c : Call) (d : Bool) (r : Answer) (u b : List ℕ) (p q : Peer) (e : Act) : Type 0 where
   pub moves : act e (view p) ≡ view q
   pub may : Guard e (view p)
-  pub uses : (x : Commit) → Uses x e → (d ≡ true) × (usesAfresh r ≡ true) × (usedAfresh gs c r ≡ x)
+  pub uses : (x : Commit) → Uses x e → UsesHere gs c d r b x
   pub forms : (x y : Commit) → Forms x y e → FormsHere gs c d r b q x y
-  pub accepts : (x y : Commit) → Accepts x y e → AcceptsHere gs c d b p x y
+  pub accepts : (x y : Commit) → Accepts x y e → AcceptsHere gs c d r b p x y
   pub commits : d ≡ true → sameAddress (r .address) b ≡ true → (x : Frame) → Among x (r .frames) → isConfirm x ≡ false → eqb (x .status) 0 ≡ true
       → (sound u ≡ true) × SendsCommit (ownCommit q) e
   pub confirms : d ≡ true → sameAddress (r .address) b ≡ true → (x : Frame) → Among x (r .frames) → isConfirm x ≡ true → Over q x e
@@ -74,7 +81,7 @@ apart-deed gs c d r u b p n = record {
   confirms = λ k a x m i. absurd (n k a);
 }
 
-none-sent : {x : Frame} {fs : Frames} {X : Type 0} → fs ≡ None → Among x fs → X
+pub none-sent : {x : Frame} {fs : Frames} {X : Type 0} → fs ≡ None → Among x fs → X
 none-sent {x} e m = elim (subst (Among x) e m) [ ]
 
 pub view-none : view noPeer ≡ record { run = nothing; link = unlinked }
@@ -108,7 +115,7 @@ unfolding said
 step-deed gs c u a b p o e k s w D = record {
   moves = D .moves;
   may = D .may;
-  uses = λ x v. let z = D .uses x v in (refl, rw (z .0), z .1);
+  uses = λ x v. let z = D .uses x v in record { done = refl; to = s; afresh = rw (z .0); used = z .1 };
   forms = λ x y v. let z = D .forms x y v in record {
     done = refl;
     to = s;
@@ -123,6 +130,7 @@ step-deed gs c u a b p o e k s w D = record {
     done = refl;
     came = came-from k (verified-frame (z .right)) s;
     right = z .right;
+    event = z .event;
     state = z .state;
     own = z .own;
     peer = z .peer;
@@ -153,7 +161,7 @@ said-to : (r : Answer) (o : Step) (a : List ℕ) → r ≡ said o a → r .addre
 unfolding said
 said-to r o a e = rw e
 
-kill-frames : (r : Answer) (a : List ℕ) → r ≡ said killStep a → r .frames ≡ None
+pub kill-frames : (r : Answer) (a : List ℕ) → r ≡ said killStep a → r .frames ≡ None
 unfolding said killStep
 kill-frames r a e = rw e
 

@@ -6,7 +6,8 @@ use Prim.Native.Nat.{ℕ}
 use native.Mathlib.Omega.{arith}
 use Rattle.protocol.specs.Model.{Commit, Side, A, B, other, state, unlinked, finished}
 use Rattle.protocol.specs.Model as model
-use Rattle.protocol.proofs.Agree.{agreement, formed-before}
+use Rattle.protocol.proofs.Formed.{formed-before}
+use Rattle.protocol.proofs.Agree.{agreement}
 use Rattle.octets.specs.Scan.{bit}
 use Rattle.record.specs.declared.Link.{Link}
 use Rattle.record.specs.declared.Peer.{Peer}
@@ -17,11 +18,12 @@ use Rattle.call_laws.proofs.Good as good
 use Rattle.agreement.specs.Calls.{Entry, AllHanded, tableOf}
 use Rattle.agreement.specs.Story.{Pair, exchanged, storyOf}
 use Rattle.agreement.specs.Story as story
-use Rattle.agreement.specs.Statement.{Premises, Says, no-link, a-link, Formed, Demand3}
+use Rattle.agreement.specs.Statement.{run, Premises, Says, no-link, a-link, Formed, Demand3}
+use Rattle.agreement.specs.Needed.{Needed, Stronger}
 use Rattle.agreement.proofs.Engine.{Lawful}
 use Rattle.agreement.proofs.History.{shown}
 use Rattle.agreement.proofs.Acts.{view, viewLink}
-use Rattle.agreement.proofs.Valid.{ownOf, peerOf, pair-is, other-other, hist, states, valid, formed-in}
+use Rattle.agreement.proofs.Valid.{ownOf, peerOf, pair-is, other-other, hist, states, rightful, valid, formed-in}
 
 -- the protocol's link, as the story has it
 abbrev linkView : story.Link → model.Link
@@ -46,20 +48,18 @@ module _ (L : Lawful) (own : Side → List ℕ) {h : List Entry} (H : AllHanded 
   linked X l e =
       ap (λ (p : model.Peer). p .link) (states L own H X) ∙ view-link (look (decodeTable (tableOf h X)) (own (other X))) ∙ says-view (shown L H X (own (other X)) .link) ∙ ap linkView e
 
-  demanded : Demand3 own h
-  demanded = record {
-    says = λ X a. shown L H X a .link;
-    agree = λ P p q e f.
-        let z = agreement (hist L own H) (valid L own H P) (ownOf p) (peerOf p) (ownOf q) (peerOf q) (linked A (story.finished p false) e) (linked B (story.finished q false) f) in
+  stronger : Stronger own h
+  stronger = record {
+    agree = λ N p q e f.
+        let z = agreement (hist L own H) (valid L own H N) (ownOf p) (peerOf p) (ownOf q) (peerOf q) (linked A (story.finished p false) e) (linked B (story.finished q false) f) in
         pair-is q (sym (ap (λ (c : Commit). c .group) (z .1))) (sym (ap (λ (c : Commit). c .octets) (z .1))) (sym (ap (λ (c : Commit). c .octets) (z .0)));
-    formed = λ P X p m e.
-        let o = formed-before (hist L own H) (valid L own H P) X (ownOf p) (peerOf p) m (linked X (story.finished p m) e) in
+    formed = λ R X p m e.
+        let o = formed-before (hist L own H) (rightful L own H R) X (ownOf p) (peerOf p) m (linked X (story.finished p m) e) in
         subst (λ (Z : Side). Formed (other X) (own Z) (exchanged p) h) (other-other X) (formed-in L own H (other X) (exchanged p) (o .0) (o .1));
-    six = λ X a. shown L H X a .six;
   }
 
 -- what the engine's proofs give
-lawful : Lawful
+pub lawful : Lawful
 lawful =
     record {
       initiate-good = good.initiate-good;
@@ -69,9 +69,29 @@ lawful =
       expire-address = good.expire-address;
     }
 
+-- the paper's premises are more than what is needed
+pub premises-needed : (own : Side → List ℕ) (h : List Entry) → Premises own h → Needed own h
+premises-needed own h P = record {
+  once = λ e d before back f c k z u v. P .once e d before back f c k (u .uses) (v .uses);
+  only = λ X e before a time frame fresh expected verdict g n c s z k w r f.
+      record { octets = frame; token = n; sent = P .only X e before a time frame fresh expected verdict c s z k w; reads = r; commit = refl };
+  rightful = record {
+    right = λ X e before a time frame fresh expected n c s z k w r b d f. (frame, P .right X e before a time frame fresh expected n _ c s z k w r (run b d refl));
+  };
+}
+
+-- (b) and (c), each from what it needs alone
+pub demand3-needed : (own : Side → List ℕ) (h : List Entry) → AllHanded h → Stronger own h
+demand3-needed own h H = stronger lawful own H
+
 -- DEMAND 3, for every list of calls, whatever is handed over
 pub demand3 : (own : Side → List ℕ) (h : List Entry) → AllHanded h → Demand3 own h
-demand3 own h H = demanded lawful own H
+demand3 own h H = record {
+  says = λ X a. shown lawful H X a .link;
+  agree = λ P. demand3-needed own h H .agree (premises-needed own h P);
+  formed = λ P. demand3-needed own h H .formed (premises-needed own h P .rightful);
+  six = λ X a. shown lawful H X a .six;
+}
 
 -- and so for the tables: two finished links with each other, neither marked, have the same group and the same two commits
 record Linked (l : story.Link) (k : Link) : Type 0 where

@@ -3,25 +3,26 @@ use mathlib.Core.Path.{_≡_, refl, sym, ap, _∙_, subst}
 use mathlib.Core.Logic.{_⊎_, inl, inr}
 use mathlib.Core.Bool.{Bool, true, false, not}
 use mathlib.Core.List.{List, []}
-use Prim.Native.Nat.{ℕ, _^_, _<_}
+use Prim.Native.Nat.{ℕ, _+_, _^_, _≤_, _<_}
 use native.Mathlib.Omega.{arith}
 use lib.Dec.{eqb, ltb}
 use lib.ListN.{length}
 use borrow.Author.Tests.{eqb-true, ne-eqb, not-false}
 use Rattle.octets.specs.Scan.{if_then_else_}
-use Rattle.octets.specs.Octets.{Bytes, sameAddress}
+use Rattle.octets.specs.Octets.{Bytes, part, num, sameAddress}
 use Rattle.octets.specs.declared.Found.{Found}
 use Rattle.octets.specs.declared.Found.the-variants as found
 use Rattle.octets.proofs.Scan.{clash}
+use Rattle.octets.proofs.Laws.{get-law, get8-law}
 use Rattle.groups.specs.Groups.{freshOk}
 use Rattle.frame.specs.Frame.{readBody}
 use Rattle.frame.specs.declared.Body.{Body}
 use Rattle.frame.specs.declared.Body.the-variants as body
 use Rattle.frame.proofs.Shapes.{commit-shape, other-commit-shape, other-confirm-shape}
 use Rattle.record.specs.declared.Peer.{Peer}
-use Rattle.record.specs.declared.Settings.{Settings}
 use Rattle.record.specs.declared.Header.{Header}
 use Rattle.record.specs.Layout.{groupsOf, counted, noPeer, decodeHeader, headerOf}
+use Rattle.record.specs.SettingsOctets.{settingsOf, reservedZero}
 use Rattle.soundness.proofs.Laws.{header-form, groups-form, groups-length}
 use Rattle.table.specs.Table.{Table, decodeTable, slot, finds, look, lookBy, sound, entry}
 use Rattle.table.specs.Initial.{initialOk, slotsFor}
@@ -42,8 +43,8 @@ use Rattle.answers.proofs.Laws.{Entered, old, new}
 use Rattle.answers.proofs.Theorems.{Good}
 use Rattle.answers.proofs.Ending.{Finished, Turned, turn-ends, finish-ends}
 use Rattle.answers.proofs.Ending as ending
-use Rattle.calls.specs.Calls.{initializes, initiates, kills, receives, expires, expiresBy, termsOf, brings, noToken, admitStart, startTurn, startStep, killTurn, killStep, admitFrame, frameTurn, frameStep, dueSlot, clockStep}
-use Rattle.agreement.specs.Calls.{Call, initialize, initiate, kill, receive, expire, Octets, SettingsHanded, CallHanded, an-initialize, an-initiate, a-kill, a-receive, an-expire, left, isDone, done, tableAfter}
+use Rattle.calls.specs.Calls.{initializes, initializesFrom, initiates, kills, receives, expires, expiresBy, termsOf, brings, noToken, admitStart, startTurn, startStep, killTurn, killStep, admitFrame, frameTurn, frameStep, dueSlot, clockStep}
+use Rattle.agreement.specs.Calls.{Writing, Call, initialize, initiate, kill, receive, expire, write, Octets, CallHanded, an-initialize, an-initiate, a-kill, a-receive, an-expire, a-write, left, isDone, done, tableAfter}
 use Rattle.agreement.specs.Story.{stockOf, groupsIn}
 use Rattle.agreement.proofs.Rules.{Whole, Verified, verified, Does}
 use Rattle.agreement.proofs.Ruled.{State, Heard, Stocked, frame-does, clock-does, start-does}
@@ -220,10 +221,10 @@ pub record Made (t u : List ℕ) (a : List ℕ) (o : Step) (r : Answer) : Type 0
   pub elsewhere : (b : List ℕ) → sameAddress a b ≡ false → look (decodeTable u) b ≡ look (decodeTable t) b
 
 pub data Ends (t : List ℕ) : Call → Type 0 where
-  -- a refusal, or nothing due
+  -- a refusal, nothing due, or the writer's
   idles : {c : Call} → done t c ≡ false → tableAfter t c ≡ t → Ends t c
   -- a set up: no address has a record
-  sets-up : {buffer own : List ℕ} {settings : Settings} → done t (initialize buffer own settings) ≡ true → left t (initialize buffer own settings) .answer .frames ≡ frames.None
+  sets-up : {buffer own settings : List ℕ} → done t (initialize buffer own settings) ≡ true → left t (initialize buffer own settings) .answer .frames ≡ frames.None
       → Bytes (tableAfter t (initialize buffer own settings)) → ((a : List ℕ) → look (decodeTable (tableAfter t (initialize buffer own settings))) a ≡ noPeer)
       → Ends t (initialize buffer own settings)
   frees : {a : List ℕ} → done t (kill a) ≡ true → Made t (tableAfter t (kill a)) a killStep (left t (kill a) .answer) → Ends t (kill a)
@@ -310,19 +311,50 @@ expires-unsound : (t : List ℕ) (time : ℕ) → sound t ≡ false → expires 
 unfolding expires
 expires-unsound t time s = rw s
 
-module _ (L : Lawful) (t : List ℕ) (b : Bytes t) where
-  -- a set up
-  initialize-ends : (buffer own : List ℕ) (settings : Settings) → Bytes buffer → Octets 6 own → SettingsHanded settings → Ends t (initialize buffer own settings)
-  unfolding done tableAfter initializes
-  initialize-ends buffer own settings bb ho hs = go (initialOk settings own (length buffer)) refl
-    where
-      fit : FitSettings settings own
-      fit = record { count = hs .count; groups = hs .groups; group0 = hs .group 0; group1 = hs .group 1; threshold = hs .threshold; six = ho .many; bytes = ho .bytes }
+-- what the octets of the settings can say
+one-below : (s : List ℕ) (at : ℕ) → Bytes s → at + 1 ≤ length s → num (part s at 1) < 256
+one-below s at b h = rw (← get8-law s at) (b at)
 
-      go : (x : Bool) → initialOk settings own (length buffer) ≡ x → Ends t (initialize buffer own settings)
-      go true e = sets-up {buffer = buffer} {own = own} {settings = settings} (rw e (quiet-done own)) (rw e (quiet-frames own)) (rw (e, quiet-done own) (bytes-initial settings own buffer fit bb))
-          (λ a. rw (e, quiet-done own) (fresh-look _ a (λ k. ap (λ (T : Table). slot T k) (initial-decoded settings own buffer fit e) ∙ initial-slot settings own (slotsFor (length buffer)) k)))
-      go false e = idles {c = initialize buffer own settings} (rw e (refused-done why.Settings)) (rw (e, refused-done why.Settings))
+two-below : (s : List ℕ) (at : ℕ) → Bytes s → at + 2 ≤ length s → num (part s at 2) < 65536
+two-below s at b h =
+    let e = get-law 1 1 s at _ _ _ (omega arith) (get8-law s at (omega arith)) (get8-law s (at + 1) (omega arith)) refl in
+    let x = b at in
+    let y = b (at + 1) in
+    rw (← e) (omega arith)
+
+settings-fit : (s own : List ℕ) → Octets 16 s → Octets 6 own → FitSettings (settingsOf s) own
+unfolding settingsOf
+settings-fit s own hs ho = record {
+  count = one-below s 0 (hs .bytes) (omega (arith, hs .many));
+  groups = refl;
+  group0 = two-below s 2 (hs .bytes) (omega (arith, hs .many));
+  group1 = two-below s 4 (hs .bytes) (omega (arith, hs .many));
+  threshold = two-below s 8 (hs .bytes) (omega (arith, hs .many));
+  six = ho .many;
+  bytes = ho .bytes;
+}
+
+-- the writer's call
+write-ends : (t : List ℕ) (w : Writing) → Ends t (write w)
+unfolding done tableAfter noneDue
+write-ends t w = idles {c = write w} refl refl
+
+module _ (L : Lawful) (t : List ℕ) (b : Bytes t) where
+  -- a set up: refused for a reserved octet, for what the settings say, own address or length, or done
+  initialize-ends : (buffer own settings : List ℕ) → Bytes buffer → Octets 6 own → Octets 16 settings → Ends t (initialize buffer own settings)
+  unfolding done tableAfter initializesFrom initializes
+  initialize-ends buffer own settings bb ho hs = go (reservedZero settings) (initialOk (settingsOf settings) own (length buffer)) refl refl
+    where
+      fit : FitSettings (settingsOf settings) own
+      fit = settings-fit settings own hs ho
+
+      go : (z x : Bool) → reservedZero settings ≡ z → initialOk (settingsOf settings) own (length buffer) ≡ x → Ends t (initialize buffer own settings)
+      go true true z e = sets-up {buffer = buffer} {own = own} {settings = settings} (rw (z, e) (quiet-done own)) (rw (z, e) (quiet-frames own))
+          (rw (z, e, quiet-done own) (bytes-initial (settingsOf settings) own buffer fit bb))
+          (λ a. rw (z, e, quiet-done own) (fresh-look _ a (λ k. ap (λ (T : Table). slot T k) (initial-decoded (settingsOf settings) own buffer fit e)
+          ∙ initial-slot (settingsOf settings) own (slotsFor (length buffer)) k)))
+      go true false z e = idles {c = initialize buffer own settings} (rw (z, e) (refused-done why.Settings)) (rw (z, e, refused-done why.Settings))
+      go false x z e = idles {c = initialize buffer own settings} (rw z (refused-done why.Settings)) (rw (z, refused-done why.Settings))
 
   initiate-ends : (a : List ℕ) (time : ℕ) (fresh : List ℕ) → Octets 6 a → time < 2 ^ 32 → Bytes fresh → Ends t (initiate a time fresh)
   unfolding done tableAfter initiates
@@ -407,3 +439,4 @@ module _ (L : Lawful) (t : List ℕ) (b : Bytes t) where
   call-ends (a-kill ha) = kill-ends _ ha
   call-ends (a-receive ha ht hr hf he hv) = receive-ends _ _ _ _ _ _ ha ht hr hf he hv
   call-ends (an-expire ht) = expire-ends _ ht
+  call-ends (a-write hw) = write-ends t _

@@ -7,7 +7,7 @@ use lib.Dec.{eqb, lit<}
 use borrow.Author.Tests.{eqb-true}
 use Rattle.protocol.specs.Model.{Side, A, B}
 use Rattle.protocol.specs.Repeats.{none}
-use Rattle.octets.specs.Scan.{firstBelow}
+use Rattle.octets.specs.Scan.{if_then_else_, firstBelow}
 use Rattle.octets.specs.Octets.{Bytes, num, sameAddress}
 use Rattle.record.specs.declared.Peer.{Peer}
 use Rattle.record.specs.Layout.{noPeer}
@@ -16,7 +16,7 @@ use Rattle.rules.specs.Book.{Step}
 use Rattle.answers.specs.declared.Answer.{Answer}
 use Rattle.answers.specs.Answers.{said}
 use Rattle.calls.specs.Calls.{killStep}
-use Rattle.agreement.specs.Calls.{Call, initialize, initiate, kill, receive, expire, Entry, AllHanded, none, more, left, done, tableAfter, mine, tableOf}
+use Rattle.agreement.specs.Calls.{Call, kill, Entry, AllHanded, none, more, left, done, isInitialize, tableAfter, mine, tableOf}
 use Rattle.agreement.specs.Story.{Story, nothingYet, answered, isAbout, toldBy, storyAfter, storyOf, groupsIn}
 use Rattle.agreement.specs.Statement.{no-link}
 use Rattle.agreement.proofs.Shows.{Shows, no-run, shows-state, shows-whole, shows-kept, shows-cleared}
@@ -32,11 +32,11 @@ look-same-address T a b e =
 -- ---- what a call is about
 
 about-idle : (t : List ℕ) (c : Call) (a : List ℕ) → done t c ≡ false → isAbout t c a ≡ false
-about-idle t (initialize buffer own settings) a e = e
-about-idle t (initiate address time fresh) a e = rw e
-about-idle t (kill address) a e = rw e
-about-idle t (receive address time frame fresh expected verdict) a e = rw e
-about-idle t (expire time) a e = rw e
+about-idle t c a e = rw e (go (isInitialize c))
+  where
+    go : (b : Bool) → (if b then false else false) ≡ false
+    go true = refl
+    go false = refl
 
 pub about-told : (t : List ℕ) {c : Call} {x : List ℕ} (a : List ℕ) → Told x c → isAbout t c a ≡ (done t c && sameAddress (left t c .answer .address) a)
 about-told t a a-start = refl

@@ -9,4 +9,6 @@ pub mod Acts
 pub mod Wire
 pub mod Deeds
 pub mod Valid
+pub mod Unchanged
 pub mod Demand
+pub mod Written

@@ -1,4 +1,4 @@
--- A list of calls that keeps to the premises is a list of acts that the protocol allows.
+-- A list of calls that keeps to what is needed of it is a list of acts that the protocol allows.
 use mathlib.Core.Path.{_≡_, refl, sym, ap, _∙_, subst, subst⁻¹}
 use mathlib.Core.Bool.{Bool, true, false}
 use mathlib.Core.List.{List, [], _∷_}
@@ -9,7 +9,7 @@ use borrow.Author.Tests.{eqb-false, not-true}
 use Rattle.protocol.specs.Model.{Commit, Side, A, B, other, Act, fresh, formFresh, formOwn, sendCommit, sendConfirm, sendBoth, accept, endRun, endLink, endBoth, idle, act, state, Uses, Forms, SendsCommit, SendsConfirm, Accepts, At, now, earlier, Once, Unused, Guard, World, Valid}
 use Rattle.protocol.specs.Model as model
 use Rattle.protocol.specs.Repeats.{Tally}
-use Rattle.protocol.proofs.Agree.{state-same, state-other, sides}
+use Rattle.protocol.proofs.Formed.{state-same, state-other, sides}
 use Rattle.octets.specs.Octets.{sameAddress}
 use Rattle.octets.proofs.Scan.{clash}
 use Rattle.groups.specs.Groups.{stored}
@@ -26,9 +26,10 @@ use Rattle.rules.specs.Book.{_is_}
 use Rattle.agreement.specs.Calls.{Call, receive, Entry, Handed, AllHanded, none, more, left, done, tableAfter, mine, tableOf, answerOf, stepped, Comes, last, sooner}
 use Rattle.agreement.specs.Story.{Pair, exchanged, Story, isConfirm, frameOf, groupsIn, storyOf}
 use Rattle.agreement.specs.Story as story
-use Rattle.agreement.specs.Sent.{drawn, expectedOf, SendsBy, Sent, linkPair, madeOver, SentOver}
+use Rattle.agreement.specs.Sent.{drawn, expectedOf, SendsBy, linkPair, madeOver, SentOver}
 use Rattle.agreement.specs.Statement as statement
-use Rattle.agreement.specs.Statement.{Meets, Premises, Says, no-link, a-link}
+use Rattle.agreement.specs.Statement.{Says, no-link, a-link}
+use Rattle.agreement.specs.Needed.{UsesMutually, SentCommit, Rightful, Needed}
 use Rattle.agreement.proofs.Rules.{Verified, verified}
 use Rattle.agreement.proofs.Ruled.{no-run-state}
 use Rattle.agreement.proofs.Shows.{Padded, RunShows, no-run, unpaired, paired, Shows, zero-two, one-two}
@@ -65,9 +66,6 @@ run-padded (paired e a b c d f g) s = d
 
 pub shows-pair : (p : Peer) (s : Story) → Shows p s → p .run .state ≡ 2 → s .pair ≡ pairOf p
 shows-pair p s S e = run-paired (S .run) e .2
-
-pub shows-meets : (p : Peer) (s : Story) → Shows p s → p .run .state ≡ 2 → Meets s (pairOf p)
-shows-meets p s S e = let z = run-paired (S .run) e in statement.run (z .0) (z .1) (z .2)
 
 no-link-clash : eqb (noLink .finished) 0 ≡ false → ⊥
 unfolding noLink
@@ -123,7 +121,7 @@ other-other B = refl
 
 -- the world's part of an act, from what it uses, forms and accepts
 world-of : (X : Side) (e : Act) (k : List model.Call)
-    → ((c : Commit) → Uses c e → Unused c k)
+    → ((c : Commit) → Uses c e → Unused X c k)
     → ((c q : Commit) → Forms c q e → Once (SendsCommit q) (other X) k)
     → ((c q : Commit) → Accepts c q e → Once (SendsConfirm q c) (other X) k)
     → World X e k
@@ -139,12 +137,13 @@ world-of X endLink k u f a = tt
 world-of X endBoth k u f a = tt
 world-of X idle k u f a = tt
 
--- a use in a list of calls
-record UsedIn (c : Commit) (h : List Entry) : Type 0 where
+-- a use of Z in a list of calls
+record UsedIn (own : Side → List ℕ) (c : Commit) (Z : Side) (h : List Entry) : Type 0 where
   call : Entry
+  by : Z ≡ call .side
   before : List Entry
   comes : Comes call before h
-  uses : statement.Uses c before call
+  uses : UsesMutually own c before call
 
 -- ---- the acts of a list of calls
 
@@ -200,13 +199,16 @@ module _ (L : Lawful) (own : Side → List ℕ) where
       (state-other (e .side) (deed-of k H .0) (hist H) ∙ (states H (other (e .side)) ∙ ap (λ (t : List ℕ). view (look (decodeTable t) (own (other (other (e .side)))))) (sym (table-other e h))))
       X
 
+  uses-of : {e : Entry} {h : List Entry} (k : Handed e) (H : AllHanded h) (c : Commit) → Uses c (deed-of k H .0) → UsesMutually own c h e
+  uses-of k H c u =
+      let w = deed-of k H .1 .uses c u in record { uses = record { stepped = w .done; afresh = w .afresh; used = w .used }; to = w .to }
+
   -- a commit that the protocol has used, a call of the list used
-  used-in : {h : List Entry} (H : AllHanded h) (c : Commit) (Z : Side) (t : ℕ) → At (Uses c) Z t (hist H) → UsedIn c h
+  used-in : {h : List Entry} (H : AllHanded h) (c : Commit) (Z : Side) (t : ℕ) → At (Uses c) Z t (hist H) → UsedIn own c Z h
   unfolding hist
   used-in none c Z t o = elim o [ ]
-  used-in (more {e = e} {h = h} k H) c Z t (now z q u) =
-      let w = deed-of k H .1 .uses c u in record { call = e; before = h; comes = last; uses = record { stepped = w .0; afresh = w .1; used = w .2 } }
-  used-in (more k H) c Z t (earlier o) = let w = used-in H c Z t o in record { call = w .call; before = w .before; comes = sooner (w .comes); uses = w .uses }
+  used-in (more {e = e} {h = h} k H) c Z t (now z q u) = record { call = e; by = z; before = h; comes = last; uses = uses-of k H c u }
+  used-in (more k H) c Z t (earlier o) = let w = used-in H c Z t o in record { call = w .call; by = w .by; before = w .before; comes = sooner (w .comes); uses = w .uses }
 
   -- what a call of the list did, the protocol has done
   once-at : {e : Entry} {before h : List Entry} (P : Act → Type 0) (Y : Side) → Comes e before h → (H : AllHanded h)
@@ -277,68 +279,82 @@ module _ (L : Lawful) (own : Side → List ℕ) where
       subst (λ (Z : Side). SendsBy Z (own (other Z)) octets h e x → SendsCommit (record { group = g; octets = stored (commitOf octets g n) }) (deed-of k H .0)) z
       (commit-sent k H gs octets g n x r)
 
-  once-commit : {h : List Entry} (H : AllHanded h) (Y : Side) (gs octets : List ℕ) (g n : ℕ) → readBody gs octets ≡ body.Commit g n → Sent Y (own (other Y)) octets h
-      → Once (SendsCommit (record { group = g; octets = stored (commitOf octets g n) })) Y (hist H)
-  once-commit H Y gs octets g n r S =
-      once-at _ Y (S .comes) H (λ k K. commit-sent-by k K Y gs octets g n (S .frame) (S .sends .by) r (S .sends)) (sym (S .sends .by))
+  once-commit : {h : List Entry} (H : AllHanded h) (Y : Side) (gs : List ℕ) (c : Commit) → SentCommit Y (own (other Y)) gs c h → Once (SendsCommit c) Y (hist H)
+  once-commit H Y gs c C =
+      let S = C .sent in
+      subst (λ (d : Commit). Once (SendsCommit d) Y (hist H)) (sym (commit-is c refl (sym (C .commit))))
+      (once-at _ Y (S .comes) H (λ k K. commit-sent-by k K Y gs (C .octets) (c .group) (C .token) (S .frame) (S .sends .by) (C .reads) (S .sends)) (sym (S .sends .by)))
 
   once-confirm : {h : List Entry} (H : AllHanded h) (Y : Side) (octets : List ℕ) (p : Pair) → SentOver Y (own (other Y)) octets p h
       → Once (SendsConfirm (ownOf p) (peerOf p)) Y (hist H)
   once-confirm H Y octets p S =
       once-at _ Y (S .comes) H (λ k K. confirm-made-by k K Y octets (S .frame) p (S .sends .by) (S .sends) (S .confirm) (S .over)) (sym (S .sends .by))
 
-  -- the premises of the calls before the last
-  premises-before : (e : Entry) (h : List Entry) → Premises own (e ∷ h) → Premises own h
-  premises-before e h P = record {
-    stay = λ d before buffer a settings c. P .stay d before buffer a settings (sooner c);
+  -- what is needed of the calls before the last
+  rightful-before : (e : Entry) (h : List Entry) → Rightful own (e ∷ h) → Rightful own h
+  rightful-before e h P = record { right = λ X d before a time frame fresh expected n c. P .right X d before a time frame fresh expected n (sooner c) }
+
+  needed-before : (e : Entry) (h : List Entry) → Needed own (e ∷ h) → Needed own h
+  needed-before e h P = record {
     once = λ d f before sooner′ x c. P .once d f before sooner′ x (sooner c);
-    only = λ X d before a time frame fresh expected verdict c. P .only X d before a time frame fresh expected verdict (sooner c);
-    right = λ X d before a time frame fresh expected n p c. P .right X d before a time frame fresh expected n p (sooner c);
+    only = λ X d before a time frame fresh expected verdict g n c. P .only X d before a time frame fresh expected verdict g n (sooner c);
+    rightful = rightful-before e h (P .rightful);
   }
 
-  module _ {e : Entry} {h : List Entry} (k : Handed e) (H : AllHanded h) (P : Premises own (e ∷ h)) where
-    sent-here : (octets : List ℕ) → Sent (other (e .side)) (own (e .side)) octets h → Sent (other (e .side)) (own (other (other (e .side)))) octets h
-    sent-here octets S = subst (λ (Z : Side). Sent (other (e .side)) (own Z) octets h) (sym (other-other (e .side))) S
+  -- this printer's address, by the other one
+  back : (X : Side) (F : List ℕ → Type 0) → F (own X) → F (own (other (other X)))
+  back X F s = subst (λ (Z : Side). F (own Z)) (sym (other-other X)) s
 
-    over-here : (octets : List ℕ) (p : Pair) → SentOver (other (e .side)) (own (e .side)) octets p h → SentOver (other (e .side)) (own (other (other (e .side)))) octets p h
-    over-here octets p S = subst (λ (Z : Side). SentOver (other (e .side)) (own Z) octets p h) (sym (other-other (e .side))) S
-
-    uses-first : (c : Commit) → Uses c (deed-of k H .0) → Unused c (hist H)
-    uses-first c u Z o =
-        let w = deed-of k H .1 .uses c u in
-        let v = used-in H c Z (o .0) (o .1) in
-        P .once e (v .call) h (v .before) c last (v .comes) (record { stepped = w .0; afresh = w .1; used = w .2 }) (v .uses)
+  module _ {e : Entry} {h : List Entry} (k : Handed e) (H : AllHanded h) (P : Needed own (e ∷ h)) where
+    uses-first : (c : Commit) → Uses c (deed-of k H .0) → Unused (e .side) c (hist H)
+    uses-first c u o =
+        let v = used-in H c (e .side) (o .0) (o .1) in P .once e (v .call) h (v .before) c last (v .comes) (sym (v .by)) (uses-of k H c u) (v .uses)
 
     forms-sent : (c q : Commit) → Forms c q (deed-of k H .0) → Once (SendsCommit q) (other (e .side)) (hist H)
     forms-sent c q f =
         let w = deed-of k H .1 .forms c q f in
         let x = frame-call (w .came) in
+        let n = w .hears .token in
+        let gs = groupsIn (tableOf h (e .side)) in
         let z : frameOf (e .call) ≡ x .frame = ap frameOf (x .whole) in
-        let S = P .only (e .side) e h (x .address) (x .time) (x .frame) (x .fresh) (x .expected) (x .verdict) last (w .done) refl (x .whole) (x .near) in
-        let r : readBody (groupsIn (tableOf h (e .side))) (x .frame) ≡ body.Commit (q .group) (w .hears .token) = rw z at (w .hears .reads) in
-        let y : q .octets ≡ stored (commitOf (x .frame) (q .group) (w .hears .token)) = rw z at (w .hears .stored-as) in
-        subst (λ (d : Commit). Once (SendsCommit d) (other (e .side)) (hist H)) (sym (commit-is q refl y))
-        (once-commit H (other (e .side)) (groupsIn (tableOf h (e .side))) (x .frame) (q .group) (w .hears .token) r (sent-here (x .frame) S))
+        let r : readBody gs (x .frame) ≡ body.Commit (q .group) n = rw z at (w .hears .reads) in
+        let y : q .octets ≡ stored (commitOf (x .frame) (q .group) n) = rw z at (w .hears .stored-as) in
+        let d : Commit = record { group = q .group; octets = stored (commitOf (x .frame) (q .group) n) } in
+        let C = P .only (e .side) e h (x .address) (x .time) (x .frame) (x .fresh) (x .expected) (x .verdict) (q .group) n last (w .done) refl (x .whole) (x .near) r (w .forms) in
+        subst (λ (b : Commit). Once (SendsCommit b) (other (e .side)) (hist H)) (sym (commit-is q refl y))
+        (once-commit H (other (e .side)) gs d (back (e .side) (λ a. SentCommit (other (e .side)) a gs d h) C))
 
+  module _ {e : Entry} {h : List Entry} (k : Handed e) (H : AllHanded h) (P : Rightful own (e ∷ h)) where
     accepts-made : (c q : Commit) → Accepts c q (deed-of k H .0) → Once (SendsConfirm q c) (other (e .side)) (hist H)
     accepts-made c q a =
         let w = deed-of k H .1 .accepts c q a in
         let x = confirm-call (w .right) (w .came) in
-        let m = shows-meets (peerAt h (e .side)) _ (shown L H (e .side) (own (other (e .side)))) (w .state) in
-        let S = P .right (e .side) e h (x .address) (x .time) (x .frame) (x .fresh) (x .expected) (x .counter) (pairOf (peerAt h (e .side))) last (w .done) refl (x .whole) (x .near) (x .reads) m in
+        let m = run-paired (shown L H (e .side) (own (other (e .side))) .run) (w .state) in
+        let S = P .right (e .side) e h (x .address) (x .time) (x .frame) (x .fresh) (x .expected) (x .counter) last (w .done) refl (x .whole) (x .near) (x .reads) (m .0) (m .1) (w .event) in
+        let p = exchanged (pairOf (peerAt h (e .side))) in
+        let T = subst (λ (x : Pair). SentOver (other (e .side)) (own (e .side)) (S .0) (exchanged x) h) (m .2) (S .1) in
         subst (λ (d : Commit). Once (SendsConfirm q d) (other (e .side)) (hist H)) (sym (w .own))
         (subst (λ (d : Commit). Once (SendsConfirm d (ownCommit (peerAt h (e .side)))) (other (e .side)) (hist H)) (sym (w .peer))
-        (once-confirm H (other (e .side)) (x .frame) (exchanged (pairOf (peerAt h (e .side)))) (over-here (x .frame) _ S)))
+        (once-confirm H (other (e .side)) (S .0) p (back (e .side) (λ b. SentOver (other (e .side)) b (S .0) p h) T)))
 
-  pub valid : {h : List Entry} (H : AllHanded h) → Premises own h → Valid (hist H)
+  -- the rules see to the printer's own part of an act
+  may-act : {e : Entry} {h : List Entry} (k : Handed e) (H : AllHanded h) → Guard (deed-of k H .0) (state (hist H) (e .side))
+  may-act {e} k H = subst⁻¹ (Guard (deed-of k H .0)) (states H (e .side)) (deed-of k H .1 .may)
+
+  pub rightful : {h : List Entry} (H : AllHanded h) → Rightful own h → model.Rightful (hist H)
+  unfolding hist
+  rightful none P = tt
+  rightful (more {e = e} {h = h} k H) P = ((may-act k H, accepts-made k H P), rightful H (rightful-before e h P))
+
+  pub valid : {h : List Entry} (H : AllHanded h) → Needed own h → Valid (hist H)
   unfolding hist
   valid none P = tt
   valid (more {e = e} {h = h} k H) P = (
     (
-      subst⁻¹ (Guard (deed-of k H .0)) (states H (e .side)) (deed-of k H .1 .may),
-      world-of (e .side) (deed-of k H .0) (hist H) (uses-first k H P) (forms-sent k H P) (accepts-made k H P),
+      may-act k H,
+      world-of (e .side) (deed-of k H .0) (hist H) (uses-first k H P) (forms-sent k H P) (accepts-made k H (P .rightful)),
     ),
-    valid H (premises-before e h P),
+    valid H (needed-before e h P),
   )
 
   -- ---- a pair that the protocol has formed, a call of the list formed

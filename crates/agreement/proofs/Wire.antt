@@ -25,7 +25,7 @@ use Rattle.agreement.proofs.Shows.{Padded}
 use Rattle.agreement.proofs.Stock.{Listing}
 use Rattle.agreement.proofs.Acts.{ownCommit, commit-is}
 
-outside-not : {X : Type 0} {s : List ℕ} → Outside ≡ Octets s → X
+pub outside-not : {X : Type 0} {s : List ℕ} → Outside ≡ Octets s → X
 outside-not e = let z : _≡_ {A = ℕ} 0 1 = cc in absurd (omega arith)
 
 octets-is : {a s : List ℕ} → Octets a ≡ Octets s → a ≡ s

@@ -3,3 +3,4 @@ pub mod Calls
 pub mod Story
 pub mod Sent
 pub mod Statement
+pub mod Needed

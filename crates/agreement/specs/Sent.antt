@@ -12,8 +12,8 @@ use Rattle.rules.specs.declared.Frame.{Frame}
 use Rattle.rules.specs.declared.Frames.{Frames}
 use Rattle.rules.specs.declared.Frames.the-variants.{One, Two}
 use Rattle.rules.specs.Book.{_is_}
-use Rattle.writer.specs.Writer.{recordBody}
-use Rattle.agreement.specs.Calls.{Call, initialize, initiate, kill, receive, expire, Entry, tableOf, answerOf, stepped, Comes}
+use Rattle.writer.specs.Writer.{draws, recordBody}
+use Rattle.agreement.specs.Calls.{Writing, writeParts, writeRecord, Call, initialize, initiate, kill, receive, expire, write, Entry, writes, tableOf, answerOf, stepped, Comes}
 use Rattle.agreement.specs.Story.{Pair, Link, unlinked, finished, Story, groupsIn, isConfirm, storyOf}
 
 -- the token that the host expects, which a 76 carries
@@ -23,6 +23,7 @@ expectedOf (initiate address time fresh) = []
 expectedOf (kill address) = []
 expectedOf (receive address time frame fresh expected verdict) = expected
 expectedOf (expire time) = []
+expectedOf (write w) = []
 
 -- "The frames in an answer are sent to its address as the writer makes them from the table just left": a status 0 frame is the record's own, a 76 or
 -- 77 is made from its parts
@@ -44,6 +45,16 @@ pub record SendsBy (X : Side) (a octets : List ℕ) (h : List Entry) (e : Entry)
   pub to : sameAddress (answerOf h e .address) a ≡ true
   pub among : Among x (answerOf h e .frames)
   pub made : drawn (tableOf (e ∷ h) (e .side)) (answerOf h e .address) (e .value) (expectedOf (e .call)) x ≡ Octets octets
+
+-- the writer's call for the frame x of an answer to the address
+abbrev pub writing : List ℕ → List ℕ → List ℕ → Frame → List ℕ → Writing
+writing address value expected x out =
+    if x .status is 0 then writeRecord address (x .sequence) value out
+    else writeParts (x .sequence) (x .status) (x .group) (x .counter) (if x .status is 76 then expected else []) [] out
+
+-- "as the writer makes them": from the table t the writer makes these octets of it, whatever buffer it is lent
+pub record Written (t address value expected octets : List ℕ) (x : Frame) : Type 0 where
+  pub makes : (out : List ℕ) → writes t (writing address value expected x out) ≡ draws (Octets octets) out
 
 -- a call of the list sent these octets
 pub record Sent (X : Side) (a octets : List ℕ) (h : List Entry) : Type 0 where

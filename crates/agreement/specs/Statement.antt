@@ -11,7 +11,6 @@ use Rattle.octets.specs.Octets.{sameAddress}
 use Rattle.frame.specs.Frame.{readBody}
 use Rattle.frame.specs.declared.Body.the-variants as body
 use Rattle.record.specs.declared.Link as stored
-use Rattle.record.specs.declared.Settings.{Settings}
 use Rattle.record.specs.Layout.{noLink}
 use Rattle.table.specs.Table.{decodeTable, look}
 use Rattle.agreement.specs.Calls.{initialize, receive, Entry, tableOf, answerOf, stepped, Comes}
@@ -33,7 +32,7 @@ pub data Meets (s : Story) (p : Pair) : Type 0 where
 
 pub record Premises (own : Side → List ℕ) (h : List Entry) : Type 0 where
   -- "the two own addresses stay"
-  pub stay : (e : Entry) (before : List Entry) (buffer address : List ℕ) (settings : Settings) → Comes e before h → stepped before e ≡ true
+  pub stay : (e : Entry) (before : List Entry) (buffer address settings : List ℕ) → Comes e before h → stepped before e ≡ true
       → e .call ≡ initialize buffer address settings → address ≡ own (e .side)
   -- "no two calls of the whole list use the same group and commit"
   pub once : (e d : Entry) (before sooner : List Entry) (f : Commit) → Comes e before h → Comes d sooner before → Uses f before e → ¬ Uses f sooner d

@@ -1,5 +1,6 @@
 -- What the answers of a printer's calls tell of one address, refused calls apart: commits used afresh, pairs formed, runs, the finished link and its
 -- mark, repeats. The table is read for its listed groups alone, which say how a frame is read and which place of the stock a group has.
+use mathlib.Core.Path.{_≡_}
 use mathlib.Core.Bool.{Bool, true, false, not, _&&_, _||_}
 use mathlib.Core.List.{List, [], _∷_}
 use Prim.Native.Nat.{ℕ}
@@ -19,7 +20,7 @@ use Rattle.rules.specs.Book.{_is_, _isnt_}
 use Rattle.message.specs.declared.View.{View}
 use Rattle.message.specs.View.{view, message}
 use Rattle.answers.specs.declared.Answer.{Answer}
-use Rattle.agreement.specs.Calls.{Call, initialize, initiate, kill, receive, expire, Entry, left, done, mine, tableOf}
+use Rattle.agreement.specs.Calls.{Call, initialize, initiate, kill, receive, expire, write, Entry, left, done, isInitialize, mine, tableOf}
 
 -- a pair, as one end has it
 pub record Pair : Type 0 where
@@ -61,6 +62,7 @@ isStart (initiate address time fresh) = true
 isStart (kill address) = false
 isStart (receive address time frame fresh expected verdict) = false
 isStart (expire time) = false
+isStart (write w) = false
 
 abbrev pub isFrame : Call → Bool
 isFrame (initialize buffer own settings) = false
@@ -68,6 +70,7 @@ isFrame (initiate address time fresh) = false
 isFrame (kill address) = false
 isFrame (receive address time frame fresh expected verdict) = true
 isFrame (expire time) = false
+isFrame (write w) = false
 
 -- the frame of a frame call, and the stock of a start or a frame call
 abbrev pub frameOf : Call → List ℕ
@@ -76,6 +79,7 @@ frameOf (initiate address time fresh) = []
 frameOf (kill address) = []
 frameOf (receive address time frame fresh expected verdict) = frame
 frameOf (expire time) = []
+frameOf (write w) = []
 
 abbrev pub stockOf : Call → List ℕ
 stockOf (initialize buffer own settings) = []
@@ -83,6 +87,7 @@ stockOf (initiate address time fresh) = fresh
 stockOf (kill address) = []
 stockOf (receive address time frame fresh expected verdict) = fresh
 stockOf (expire time) = []
+stockOf (write w) = []
 
 -- the frame's group and its commit, "filled with zeros as when stored"
 abbrev pub heard : List ℕ → Call → Commit
@@ -196,6 +201,14 @@ answered groups c r s =
     told (isStart c) (usesAfresh r) (usedAfresh groups c r) (formsPair c r) (heard groups c) (r .event) (sends (r .frames)) (getsTokenRequest groups c) s
 
 -- a kill or a set up ends run and link
+abbrev pub clears : Call → Bool
+clears (initialize buffer own settings) = true
+clears (initiate address time fresh) = false
+clears (kill address) = true
+clears (receive address time frame fresh expected verdict) = false
+clears (expire time) = false
+clears (write w) = false
+
 unfoldable pub cleared : Story → Story
 cleared s = record { fresh = s .fresh; pair = s .pair; running = false; stands = false; link = unlinked; runs = s .runs }
 
@@ -206,20 +219,10 @@ groupsIn t = groupsOf (decodeTable t .header)
 
 -- a set up that is not refused is about every address, another call about its answer's
 abbrev pub isAbout : List ℕ → Call → List ℕ → Bool
-isAbout t (initialize buffer own settings) a = done t (initialize buffer own settings)
-isAbout t (initiate address time fresh) a = done t (initiate address time fresh) && sameAddress (left t (initiate address time fresh) .answer .address) a
-isAbout t (kill address) a = done t (kill address) && sameAddress (left t (kill address) .answer .address) a
-isAbout t (receive address time frame fresh expected verdict) a =
-    done t (receive address time frame fresh expected verdict) && sameAddress (left t (receive address time frame fresh expected verdict) .answer .address) a
-isAbout t (expire time) a = done t (expire time) && sameAddress (left t (expire time) .answer .address) a
+isAbout t c a = if isInitialize c then done t c else done t c && sameAddress (left t c .answer .address) a
 
 abbrev pub toldBy : List ℕ → Call → Story → Story
-toldBy t (initialize buffer own settings) s = cleared s
-toldBy t (initiate address time fresh) s = answered (groupsIn t) (initiate address time fresh) (left t (initiate address time fresh) .answer) s
-toldBy t (kill address) s = cleared s
-toldBy t (receive address time frame fresh expected verdict) s =
-    answered (groupsIn t) (receive address time frame fresh expected verdict) (left t (receive address time frame fresh expected verdict) .answer) s
-toldBy t (expire time) s = answered (groupsIn t) (expire time) (left t (expire time) .answer) s
+toldBy t c s = if clears c then cleared s else answered (groupsIn t) c (left t c .answer) s
 
 unfoldable pub storyAfter : List ℕ → Call → List ℕ → Story → Story
 storyAfter t c a s = if isAbout t c a then toldBy t c s else s
@@ -228,3 +231,8 @@ storyAfter t c a s = if isAbout t c a then toldBy t c s else s
 unfoldable pub storyOf : List Entry → Side → List ℕ → Story
 storyOf [] X a = nothingYet
 storyOf (e ∷ h) X a = mine (e .side) X (storyAfter (tableOf h X) (e .call) a (storyOf h X a)) (storyOf h X a)
+
+-- two lists of calls leave the same tables and tell the same stories
+pub record Alike (h k : List Entry) : Type 0 where
+  pub table : (X : Side) → tableOf h X ≡ tableOf k X
+  pub story : (X : Side) (a : List ℕ) → storyOf h X a ≡ storyOf k X a

@@ -12,6 +12,7 @@ use Rattle.groups.specs.Groups.{freshOk}
 use Rattle.record.specs.declared.Header.{Header}
 use Rattle.record.specs.declared.Settings.{Settings}
 use Rattle.record.specs.Layout.{groupsOf, noPeer}
+use Rattle.record.specs.SettingsOctets.{settingsOf, reservedZero}
 use Rattle.table.specs.Table.{Table, decodeTable, slots, slot, freeSlot, lookBy, sound, entry}
 use Rattle.table.specs.Initial.{initialOk, initial}
 use Rattle.table.specs.declared.Entry.{Entry}
@@ -53,6 +54,10 @@ unfoldable pub initializes : List ℕ → List ℕ → Settings → Left
 initializes t own s =
     if initialOk s own (length t) then record { answer = quiet own; table = initial s own t }
     else refuse t why.Settings
+
+-- the same from the settings' 16 octets, as C hands them over: a reserved octet that is not 0 is 1 too
+unfoldable pub initializesFrom : List ℕ → List ℕ → List ℕ → Left
+initializesFrom t own s = if reservedZero s then initializes t own (settingsOf s) else refuse t why.Settings
 
 -- ---- Start: causes 2, 3, 4, 8, 9
 

@@ -1,34 +1,20 @@
 -- The two printers agree: where both links are finished and neither is marked, the two pairs are one, exchanged.
-use mathlib.Core.Path.{_≡_, refl, sym, subst, subst⁻¹}
+use mathlib.Core.Path.{_≡_, refl, sym, subst}
 use mathlib.Core.Logic.{_⊎_, inl, inr, ⊎-elim}
-use mathlib.Core.Bool.{Bool, true, false}
+use mathlib.Core.Bool.{false}
 use mathlib.Core.List.{List, [], _∷_}
-use Prim.Native.Nat.{ℕ, zero, suc, _≤_, _<_}
+use Prim.Native.Nat.{ℕ, suc, _≤_, _<_}
 use native.Mathlib.Nat.{eq-or-lt-of-le, le-of-suc-le-suc}
 use native.Mathlib.Omega.{arith}
 use lib.ListN.{length}
-use Rattle.protocol.specs.Model.{Commit, Side, A, B, other, Run, nothing, committed, confirmed, Link, unlinked, finished, Peer, Act, fresh, formFresh, formOwn, sendCommit, sendConfirm, sendBoth, accept, endRun, endLink, endBoth, idle, Call, by, marked, act, turn, state, Uses, Forms, SendsCommit, SendsConfirm, At, now, earlier, Once, Unpaired, Own, LinkPair, Pair, Unused, Guard, World, Ok, Valid}
+use Rattle.protocol.specs.Model.{Commit, Side, A, B, other, Run, nothing, committed, confirmed, Link, unlinked, finished, Act, fresh, formFresh, formOwn, sendCommit, sendConfirm, sendBoth, accept, endRun, endLink, endBoth, idle, Call, by, marked, act, state, Uses, Forms, SendsCommit, At, now, earlier, Once, Own, Unused, World, Ok, Valid, Right, Rightful}
+use Rattle.protocol.proofs.Formed.{later, after, formed-before}
 
 -- Sides.
 
 not-other : (X : Side) → ¬ (X ≡ other X)
 not-other A e = let z : _≡_ {A = ℕ} 0 1 = cc in omega arith
 not-other B e = let z : _≡_ {A = ℕ} 0 1 = cc in omega arith
-
--- what holds of X and of the other holds of both
-pub sides : (P : Side → Type 0) (X : Side) → P X → P (other X) → (Z : Side) → P Z
-sides P A p q A = p
-sides P A p q B = q
-sides P B p q A = q
-sides P B p q B = p
-
-pub state-same : (X : Side) (e : Act) (h : List Call) → state (by X e ∷ h) X ≡ act e (state h X)
-state-same A e h = refl
-state-same B e h = refl
-
-pub state-other : (X : Side) (e : Act) (h : List Call) → state (by X e ∷ h) (other X) ≡ state h (other X)
-state-other A e h = refl
-state-other B e h = refl
 
 -- Times.
 
@@ -64,7 +50,7 @@ RunFact Z h (confirmed c p) = Last Z h c p
 
 abbrev LinkFact : Side → List Call → Link → Type 0
 LinkFact Z h unlinked = Unit {0}
-LinkFact Z h (finished c p m) = Once (Forms c p) Z h × Once (Forms p c) (other Z) h × (m ≡ false → Last Z h c p)
+LinkFact Z h (finished c p m) = m ≡ false → Last Z h c p
 
 -- Z used c afresh not after t, and after every pair that it formed before t
 abbrev UsedFor : Side → List Call → Commit → ℕ → Type 0
@@ -73,7 +59,6 @@ UsedFor Z h c t = (u : ℕ) × (u ≤ t) × At (Uses c) Z u h × ((d q : Commit)
 record Inv (h : List Call) : Type 0 where
   once : (Z : Side) (c : Commit) (t u : ℕ) → At (Uses c) Z t h → At (Uses c) Z u h → t ≡ u
   sent : (Z : Side) (c : Commit) (t : ℕ) → At (SendsCommit c) Z t h → Once (Uses c) Z h
-  made : (Z : Side) (c p : Commit) (t : ℕ) → At (SendsConfirm c p) Z t h → Once (Forms c p) Z h
   own : (Z : Side) (c p : Commit) (t : ℕ) → At (Forms c p) Z t h → UsedFor Z h c t
   peer : (Z : Side) (c p : Commit) (t : ℕ) → At (Forms c p) Z t h → (u : ℕ) × (u < t) × At (Uses p) (other Z) u h
   run : (Z : Side) → RunFact Z h (state h Z .run)
@@ -86,7 +71,6 @@ start : Inv []
 start = record {
   once = λ Z c t u o k. absurd (never o);
   sent = λ Z c t o. absurd (never o);
-  made = λ Z c p t o. absurd (never o);
   own = λ Z c p t o. absurd (never o);
   peer = λ Z c p t o. absurd (never o);
   run = λ Z. tt;
@@ -95,29 +79,17 @@ start = record {
 
 -- One call more: what it uses, sends and forms.
 
-later : {P : Act → Type 0} {Z : Side} {h : List Call} {c : Call} → Once P Z h → Once P Z (c ∷ h)
-later o = (o .0, earlier (o .1))
-
 module _ (X : Side) (h : List Call) (I : Inv h) where
-  -- what the run sends again was used afresh, and what a Confirm is made over was formed
+  -- what the run sends again was used afresh
   own-used : (c : Commit) (r : Run) → RunFact X h r → Own r c → Once (Uses c) X h
   own-used c nothing f o = absurd o
   own-used c (committed d) f o = rw o (f .0, f .1)
   own-used c (confirmed d p) f o = rw o (let k = I .own X d p (f .0) (f .1) in (k .0, k .2))
 
-  link-formed : (c p : Commit) (l : Link) → LinkFact X h l → LinkPair l c p → Once (Forms c p) X h
-  link-formed c p unlinked f o = absurd o
-  link-formed c p (finished d q m) f o = rw (o .0, o .1) (f .0)
-
-  pair-formed : (c p : Commit) (r : Run) (l : Link) → RunFact X h r → LinkFact X h l → Pair r l c p → Once (Forms c p) X h
-  pair-formed c p nothing l f g o = link-formed c p l g o
-  pair-formed c p (committed d) l f g o = absurd o
-  pair-formed c p (confirmed d q) l f g o = rw (o .0, o .1) (f .0, f .1)
-
   run-is : (r : Run) → state h X .run ≡ r → RunFact X h r
   run-is r e = rw e at (I .run X)
 
-  use-new : (d : Commit) (e : Act) → Ok X e h → Uses d e → Unused d h
+  use-new : (d : Commit) (e : Act) → Ok X e h → Uses d e → Unused X d h
   use-new d (fresh c) o u = rw u (o .1)
   use-new d (formFresh c p) o u = rw u (o .1 .0)
   use-new d (formOwn c p) o u = absurd u
@@ -142,19 +114,6 @@ module _ (X : Side) (h : List Call) (I : Inv h) where
   commit-used d endLink o u = absurd u
   commit-used d endBoth o u = absurd u
   commit-used d idle o u = absurd u
-
-  confirm-formed : (d q : Commit) (e : Act) → Ok X e h → SendsConfirm d q e → Forms d q e ⊎ Once (Forms d q) X h
-  confirm-formed d q (fresh c) o u = absurd u
-  confirm-formed d q (formFresh c p) o u = inl u
-  confirm-formed d q (formOwn c p) o u = inl u
-  confirm-formed d q (sendCommit c) o u = absurd u
-  confirm-formed d q (sendConfirm c p) o u = inr (rw (u .0, u .1) (pair-formed c p (state h X .run) (state h X .link) (I .run X) (I .link X) (o .0)))
-  confirm-formed d q (sendBoth c p) o u = inr (rw (u .0, u .1) (let f = run-is (confirmed c p) (o .0) in (f .0, f .1)))
-  confirm-formed d q (accept c p) o u = absurd u
-  confirm-formed d q endRun o u = absurd u
-  confirm-formed d q endLink o u = absurd u
-  confirm-formed d q endBoth o u = absurd u
-  confirm-formed d q idle o u = absurd u
 
   form-own : (d q : Commit) (e : Act) → Ok X e h → Forms d q e → Uses d e ⊎ Ready X h d
   form-own d q (fresh c) o u = absurd u
@@ -196,11 +155,11 @@ module _ (Z X : Side) (e : Act) (h : List Call) (quiet : (c p : Commit) → Z �
 
   link-keep : (l : Link) → LinkFact Z h l → LinkFact Z (by X e ∷ h) l
   link-keep unlinked f = tt
-  link-keep (finished c p m) f = (later (f .0), later (f .1), λ k. let l = f .2 k in (l .0, earlier (l .1), before-keep (l .2)))
+  link-keep (finished c p m) f = λ k. let l = f k in (l .0, earlier (l .1), before-keep (l .2))
 
 link-marked : (Z : Side) (c : Call) (h : List Call) (l : Link) → LinkFact Z h l → LinkFact Z (c ∷ h) (marked l)
 link-marked Z c h unlinked f = tt
-link-marked Z a h (finished c p m) f = (later (f .0), later (f .1), λ k. let z : _≡_ {A = ℕ} 0 1 = cc in absurd (omega arith))
+link-marked Z a h (finished c p m) f = λ k. let z : _≡_ {A = ℕ} 0 1 = cc in absurd (omega arith)
 
 -- One call more keeps all of it.
 
@@ -226,9 +185,7 @@ module _ (X : Side) (h : List Call) (I : Inv h) where
   link-after (sendConfirm c p) o = link-keep X X (sendConfirm c p) h (λ d q z k. k) (state h X .link) (I .link X)
   link-after (sendBoth c p) o = link-keep X X (sendBoth c p) h (λ d q z k. k) (state h X .link) (I .link X)
   link-after (accept c p) o =
-      let f = run-is X h I (confirmed c p) (o .0) in
-      let g = I .made (other X) p c (o .1 .0) (o .1 .1) in
-      ((f .0, earlier (f .1)), later g, λ k. (f .0, earlier (f .1), before-keep X X (accept c p) h (λ d q z k. k) (f .2)))
+      let f = run-is X h I (confirmed c p) (o .0) in λ k. (f .0, earlier (f .1), before-keep X X (accept c p) h (λ d q z k. k) (f .2))
   link-after endRun o = link-keep X X endRun h (λ d q z k. k) (state h X .link) (I .link X)
   link-after endLink o = tt
   link-after endBoth o = tt
@@ -237,17 +194,13 @@ module _ (X : Side) (h : List Call) (I : Inv h) where
   module _ (e : Act) (o : Ok X e h) where
     once-after : (Z : Side) (c : Commit) (t u : ℕ) → At (Uses c) Z t (by X e ∷ h) → At (Uses c) Z u (by X e ∷ h) → t ≡ u
     once-after Z c t u (now z q a) (now y r b) = omega arith
-    once-after Z c t u (now z q a) (earlier k) = absurd (use-new X h I c e o a Z (u, k))
-    once-after Z c t u (earlier k) (now z q a) = absurd (use-new X h I c e o a Z (t, k))
+    once-after Z c t u (now z q a) (earlier k) = absurd (use-new X h I c e o a (u, rw z at k))
+    once-after Z c t u (earlier k) (now z q a) = absurd (use-new X h I c e o a (t, rw z at k))
     once-after Z c t u (earlier k) (earlier l) = I .once Z c t u k l
 
     sent-after : (Z : Side) (c : Commit) (t : ℕ) → At (SendsCommit c) Z t (by X e ∷ h) → Once (Uses c) Z (by X e ∷ h)
     sent-after Z c t (now z q a) = rw z (⊎-elim (λ u. (length h, now refl refl u)) later (commit-used X h I c e o a))
     sent-after Z c t (earlier k) = later (I .sent Z c t k)
-
-    made-after : (Z : Side) (c p : Commit) (t : ℕ) → At (SendsConfirm c p) Z t (by X e ∷ h) → Once (Forms c p) Z (by X e ∷ h)
-    made-after Z c p t (now z q a) = rw z (⊎-elim (λ u. (length h, now refl refl u)) later (confirm-formed X h I c p e o a))
-    made-after Z c p t (earlier k) = later (I .made Z c p t k)
 
     own-now : (c p : Commit) → Forms c p e → Uses c e ⊎ Ready X h c → UsedFor X (by X e ∷ h) c (length h)
     own-now c p f (inl u) = (length h, omega arith, now refl refl u, λ d q s k l. l)
@@ -279,30 +232,38 @@ module _ (X : Side) (h : List Call) (I : Inv h) where
     step = record {
       once = once-after;
       sent = sent-after;
-      made = made-after;
       own = own-after;
       peer = peer-after;
-      run = sides (λ Z. RunFact Z (by X e ∷ h) (state (by X e ∷ h) Z .run)) X
-          (subst⁻¹ (λ (s : Peer). RunFact X (by X e ∷ h) (s .run)) (state-same X e h) (run-after e o))
-          (subst⁻¹ (λ (s : Peer). RunFact (other X) (by X e ∷ h) (s .run)) (state-other X e h)
-          (run-keep (other X) X e h still (state h (other X) .run) (I .run (other X))));
-      link = sides (λ Z. LinkFact Z (by X e ∷ h) (state (by X e ∷ h) Z .link)) X
-          (subst⁻¹ (λ (s : Peer). LinkFact X (by X e ∷ h) (s .link)) (state-same X e h) (link-after e o))
-          (subst⁻¹ (λ (s : Peer). LinkFact (other X) (by X e ∷ h) (s .link)) (state-other X e h)
-          (link-keep (other X) X e h still (state h (other X) .link) (I .link (other X))));
+      run = after (λ Z k s. RunFact Z k (s .run)) X e h (run-after e o) (run-keep (other X) X e h still (state h (other X) .run) (I .run (other X)));
+      link = after (λ Z k s. LinkFact Z k (s .link)) X e h (link-after e o) (link-keep (other X) X e h still (state h (other X) .link) (I .link (other X)));
     }
 
 inv : (h : List Call) → Valid h → Inv h
 inv [] v = start
 inv (by X e ∷ h) v = step X h (inv h (v .1)) e (v .0)
 
--- The two theorems.
+-- The theorem.
+
+-- what is asked of the history is enough for the pairs of single links
+world-right : (X : Side) (e : Act) (h : List Call) → World X e h → Right X e h
+world-right X (fresh c) h w d q a = absurd a
+world-right X (formFresh c p) h w d q a = absurd a
+world-right X (formOwn c p) h w d q a = absurd a
+world-right X (sendCommit c) h w d q a = absurd a
+world-right X (sendConfirm c p) h w d q a = absurd a
+world-right X (sendBoth c p) h w d q a = absurd a
+world-right X (accept c p) h w d q a = rw (a .0, a .1) w
+world-right X endRun h w d q a = absurd a
+world-right X endLink h w d q a = absurd a
+world-right X endBoth h w d q a = absurd a
+world-right X idle h w d q a = absurd a
+
+valid-rightful : (h : List Call) → Valid h → Rightful h
+valid-rightful [] v = tt
+valid-rightful (by X e ∷ h) v = ((v .0 .0, world-right X e h (v .0 .1)), valid-rightful h (v .1))
 
 link-is : (h : List Call) → Valid h → (X : Side) (l : Link) → state h X .link ≡ l → LinkFact X h l
 link-is h v X l e = subst (LinkFact X h) e (inv h v .link X)
-
-pub formed-before : (h : List Call) → Valid h → (X : Side) (c p : Commit) (m : Bool) → state h X .link ≡ finished c p m → Once (Forms p c) (other X) h
-formed-before h v X c p m e = link-is h v X (finished c p m) e .1
 
 same-form : (c p d q : Commit) (e : Act) → Forms c p e → Forms d q e → (c ≡ d) × (p ≡ q)
 same-form c p d q (fresh a) f g = absurd f
@@ -352,6 +313,6 @@ meet X h I a b c d f k g l = first (eq-or-lt-of-le (le-of-suc-le-suc (f .2 d c (
 pub agreement : (h : List Call) → Valid h → (a b c d : Commit)
     → state h A .link ≡ finished a b false → state h B .link ≡ finished c d false → (a ≡ d) × (b ≡ c)
 agreement h v a b c d e f =
-    let k = link-is h v A (finished a b false) e in
-    let l = link-is h v B (finished c d false) f in
-    meet A h (inv h v) a b c d (k .2 refl) (l .2 refl) (l .1) (k .1)
+    let k = formed-before h (valid-rightful h v) A a b false e in
+    let l = formed-before h (valid-rightful h v) B c d false f in
+    meet A h (inv h v) a b c d (link-is h v A (finished a b false) e refl) (link-is h v B (finished c d false) f refl) l k

@@ -1,3 +1,4 @@
 -- The theorems of `protocol`.
+pub mod Formed
 pub mod Agree
 pub mod Repeats

@@ -176,8 +176,9 @@ Pair nothing l d q = LinkPair l d q
 Pair (committed c) l d q = ⊥
 Pair (confirmed c p) l d q = (d ≡ c) × (q ≡ p)
 
-abbrev pub Unused : Commit → List Call → Type 0
-Unused c h = (Z : Side) → ¬ Once (Uses c) Z h
+-- X has not used c
+abbrev pub Unused : Side → Commit → List Call → Type 0
+Unused X c h = ¬ Once (Uses c) X h
 
 -- what a printer's own state must be for the act: the rules see to this
 abbrev pub Guard : Act → Peer → Type 0
@@ -193,10 +194,10 @@ Guard endLink s = Unit {0}
 Guard endBoth s = Unit {0}
 Guard idle s = Unit {0}
 
--- what came before: a commit is used once, the other sent what comes from it, and made the Confirm that is accepted over the same pair
+-- what came before: a printer uses a commit once, the other sent what comes from it, and made the Confirm that is accepted over the same pair
 abbrev pub World : Side → Act → List Call → Type 0
-World X (fresh c) h = Unused c h
-World X (formFresh c p) h = Unused c h × Once (SendsCommit p) (other X) h
+World X (fresh c) h = Unused X c h
+World X (formFresh c p) h = Unused X c h × Once (SendsCommit p) (other X) h
 World X (formOwn c p) h = Once (SendsCommit p) (other X) h
 World X (sendCommit c) h = Unit {0}
 World X (sendConfirm c p) h = Unit {0}
@@ -214,3 +215,11 @@ Ok X e h = Guard e (state h X) × World X e h
 abbrev pub Valid : List Call → Type 0
 Valid [] = Unit {0}
 Valid (by X e ∷ h) = Ok X e h × Valid h
+
+-- less than that: what is accepted, the other made a Confirm over
+abbrev pub Right : Side → Act → List Call → Type 0
+Right X e h = (c p : Commit) → Accepts c p e → Once (SendsConfirm p c) (other X) h
+
+abbrev pub Rightful : List Call → Type 0
+Rightful [] = Unit {0}
+Rightful (by X e ∷ h) = (Guard e (state h X) × Right X e h) × Rightful h

@@ -14,6 +14,7 @@ use Rattle.record.specs.Codec.{glue, total}
 use Rattle.record.specs.declared.Header.{Header}
 use Rattle.record.specs.declared.Settings.{Settings}
 use Rattle.record.specs.Layout.{groupsOf}
+use Rattle.record.specs.SettingsOctets.{settingsOf, reservedZero}
 use Rattle.record.proofs.Codec.{lay, lay-all}
 use Rattle.rules.specs.declared.Frame.{Frame}
 use Rattle.rules.specs.declared.Frames.{Frames}
@@ -34,12 +35,12 @@ use Rattle.answers.specs.declared.Answer.{Answer}
 use Rattle.answers.specs.Answers.{Left, Leaves, returned, refused}
 use Rattle.answers.specs.declared.Refusal.{Refusal}
 use Rattle.answers.specs.declared.Refusal.the-variants as why
-use Rattle.calls.specs.Calls.{initializes}
+use Rattle.calls.specs.Calls.{initializes, initializesFrom}
 use Rattle.writer.specs.declared.Wrote.{Wrote}
 use Rattle.writer.specs.declared.Wrote.the-variants as wrote
 use Rattle.writer.specs.Writer.{LeftOut, LeavesOut, writesParts, recordCommit, recordConfirm, recordBody, writesRecord}
 use Rattle.writer.proofs.Theorems.{Draws, outside, short, whole, FromParts, malformed, made, FromRecord, unsound, unusable, absent, drawn, parts-one, record-one}
-use Rattle.sae.specs.Interface.{settingsOf, reservedZero, initializesFrom, noneDueFlag, frameOctets, framedOctets, framesOctets, answerOctets, isRefused, answerLeft, Returns, hasToken, tokenAt, hasValue, restAt, partsOctets, readNumber, readParts, Reads, wroteNumber, writtenLeft, Counted, Writes}
+use Rattle.sae.specs.Interface.{noneDueFlag, frameOctets, framedOctets, framesOctets, answerOctets, isRefused, answerLeft, Returns, hasToken, tokenAt, hasValue, restAt, partsOctets, readNumber, readParts, Reads, wroteNumber, writtenLeft, Counted, Writes}
 
 -- ---- octets, one store for each field
 

@@ -10,6 +10,7 @@ use Rattle.octets.specs.declared.Found.{Found}
 use Rattle.octets.specs.declared.Found.the-variants as found
 use Rattle.record.specs.declared.Settings.{Settings}
 use Rattle.record.specs.Layout.{groupsOf}
+use Rattle.record.specs.SettingsOctets.{settingsOf, reservedZero}
 use Rattle.rules.specs.Book.{_is_, Step}
 use Rattle.message.specs.View.{view}
 use Rattle.table.specs.Table.{decodeTable, sound}
@@ -22,12 +23,12 @@ use Rattle.answers.specs.declared.Refusal.the-variants as why
 use Rattle.answers.specs.declared.Turn.{Turn}
 use Rattle.answers.specs.declared.Turn.the-variants as turn
 use Rattle.answers.specs.Answers.{Left, returned, refused, refuse, said, quiet, seating, finishAt, finishes, turned}
-use Rattle.calls.specs.Calls.{initializes, initiates, kills, receives, dueSlot, expiresBy, expires}
+use Rattle.calls.specs.Calls.{initializes, initializesFrom, initiates, kills, receives, dueSlot, expiresBy, expires}
 use Rattle.writer.specs.declared.Wrote.{Wrote}
 use Rattle.writer.specs.declared.Wrote.the-variants as wrote
 use Rattle.writer.specs.Writer.{LeftOut, writesParts, writesRecord}
 use Rattle.writer.proofs.Theorems.{parts-refused, record-refused}
-use Rattle.sae.specs.Interface.{reservedZero, settingsOf, initializesFrom, answerLeft, Returns, readNumber, readParts, partsOctets, Reads, wroteNumber, writtenLeft, Writes}
+use Rattle.sae.specs.Interface.{answerLeft, Returns, readNumber, readParts, partsOctets, Reads, wroteNumber, writtenLeft, Writes}
 
 -- ---- calls
 

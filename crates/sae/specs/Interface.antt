@@ -1,12 +1,11 @@
--- The octets of the C interface: settings in, answers and parts out. Every field is little-endian.
+-- The octets of the C interface: answers and parts out; the settings' stand in record. Every field is little-endian.
 use mathlib.Core.Path.{_≡_}
 use mathlib.Core.Bool.{Bool, true, false, _&&_, _||_}
-use mathlib.Core.List.{List, [], _∷_, _++_}
+use mathlib.Core.List.{List, _++_}
 use Prim.Native.Nat.{ℕ, _+_, _≤_}
 use lib.ListN.{replicate}
-use Rattle.octets.specs.Octets.{part, num, oct, allZero}
+use Rattle.octets.specs.Octets.{oct}
 use Rattle.octets.specs.Scan.{if_then_else_}
-use Rattle.record.specs.declared.Settings.{Settings}
 use Rattle.record.specs.Layout.{groupsOf}
 use Rattle.rules.specs.Book.{_is_, eventNumber}
 use Rattle.rules.specs.declared.Frame.{Frame}
@@ -18,25 +17,10 @@ use Rattle.table.specs.Table.{decodeTable, sound}
 use Rattle.answers.specs.declared.Outcome.{Outcome}
 use Rattle.answers.specs.declared.Outcome.the-variants as outcome
 use Rattle.answers.specs.declared.Answer.{Answer}
-use Rattle.answers.specs.Answers.{Left, returned, number, refuse}
-use Rattle.answers.specs.declared.Refusal.the-variants as why
-use Rattle.calls.specs.Calls.{initializes}
+use Rattle.answers.specs.Answers.{Left, returned, number}
 use Rattle.writer.specs.declared.Wrote.{Wrote}
 use Rattle.writer.specs.declared.Wrote.the-variants as wrote
 use Rattle.writer.specs.Writer.{LeftOut}
-
--- ---- settings, 16 octets: 0 group count; 1 zero; 2–3 and 4–5 the groups; 6–7 zero; 8–9 threshold; 10–15 zero
-
-unfoldable pub settingsOf : List ℕ → Settings
-settingsOf s = record { count = num (part s 0 1); groups = num (part s 2 2) ∷ num (part s 4 2) ∷ []; threshold = num (part s 8 2) }
-
--- "anything but 0 there is refusal 1"
-unfoldable pub reservedZero : List ℕ → Bool
-reservedZero s = allZero (part s 1 1) && (allZero (part s 6 2) && allZero (part s 10 6))
-
--- set up from the octets of the settings
-unfoldable pub initializesFrom : List ℕ → List ℕ → List ℕ → Left
-initializesFrom t own s = if reservedZero s then initializes t own (settingsOf s) else refuse t why.Settings
 
 -- ---- answer, 28 octets: 0 none due (1, else 0); 1 event; 2–3 fresh group used; 4–9 address; 10 number of frames; 11 zero; 12–19 and 20–27 the frames
 

@@ -1,11 +1,12 @@
 // The C interface: what firmware links. Thin over engine, writer and message. Every function returns 0 or the number of a refusal, and on a refusal
 // leaves every lent octet, the answer and the length written too.
 ghost use mathlib.Core.Path.{_≡_};
+ghost use Rattle.record.specs.SettingsOctets.{settingsOf, reservedZero};
 ghost use Rattle.rules.specs.Book.{eventNumber};
 ghost use Rattle.answers.specs.Answers.{Leaves, returned};
-ghost use Rattle.calls.specs.Calls.{initiates, kills, receives, expires};
+ghost use Rattle.calls.specs.Calls.{initializesFrom, initiates, kills, receives, expires};
 ghost use Rattle.writer.specs.Writer.{writesParts, writesRecord};
-ghost use Rattle.sae.specs.Interface.{settingsOf, reservedZero, initializesFrom, noneDueFlag, frameOctets, framedOctets, framesOctets, answerOctets, isRefused, answerLeft, Returns, hasToken, tokenAt, hasValue, restAt, partsOctets, Reads, wroteNumber, writtenLeft, Counted, Writes};
+ghost use Rattle.sae.specs.Interface.{noneDueFlag, frameOctets, framedOctets, framesOctets, answerOctets, isRefused, answerLeft, Returns, hasToken, tokenAt, hasValue, restAt, partsOctets, Reads, wroteNumber, writtenLeft, Counted, Writes};
 use answers::Answer;
 use answers::Outcome;
 use answers::Refusal;

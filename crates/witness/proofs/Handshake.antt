@@ -1,7 +1,7 @@
 -- The two lists keep to the premises of demand 3; the handshake ends with two clear links that agree, and after the second one A's link is clear, B's is
 -- marked, and they differ.
 use mathlib.Core.Path.{_≡_, refl, sym, ap, _∙_, subst}
-use mathlib.Core.Bool.{Bool, true, false, _&&_}
+use mathlib.Core.Bool.{Bool, true, false, not, _&&_}
 use mathlib.Core.List.{List, [], _∷_, _++_}
 use Prim.Native.Nat.{ℕ, zero, suc, _<_}
 use native.Mathlib.Omega.{arith}
@@ -18,7 +18,6 @@ use Rattle.frame.specs.Writing.{Octets}
 use Rattle.frame.specs.declared.Body.the-variants as body-is
 use Rattle.frame.proofs.Shapes.{confirm-shape}
 use Rattle.frame.proofs.RoundTrip.{body-sequence}
-use Rattle.record.specs.declared.Settings.{Settings}
 use Rattle.record.specs.Layout.{noLink}
 use Rattle.rules.specs.declared.Frame.{Frame}
 use Rattle.rules.specs.Book.{commitFrame, confirmFrame}
@@ -34,7 +33,7 @@ use Rattle.message.specs.View as seen
 use Rattle.frame.specs.Writing as writing
 use Rattle.writer.specs.Writer as writer
 use Rattle.agreement.specs.Calls as calls-of
-use Rattle.agreement.specs.Calls.{SettingsHanded, an-initialize, an-initiate, a-receive, Handed, AllHanded, Call, initialize, initiate, receive, Entry, left, isDone, done, tableAfter, tableOf, stepped, Comes, last, sooner}
+use Rattle.agreement.specs.Calls.{an-initialize, an-initiate, a-receive, Handed, AllHanded, Call, initialize, initiate, receive, Entry, left, isDone, done, tableAfter, tableOf, stepped, Comes, last, sooner}
 use Rattle.agreement.specs.Story.{Pair, exchanged, unlinked, finished, Story, nothingYet, usesAfresh, usedAfresh, answered, cleared, storyAfter, storyOf, groupsIn}
 use Rattle.agreement.specs.Story as stories
 use Rattle.agreement.specs.Sent.{drawn, expectedOf, Among, only, first, second, SendsBy, Sent, SentOver}
@@ -107,9 +106,9 @@ more-answered = getsCommit B 6 7 8 ∷ more
 abbrev more-confirmed : List Entry
 more-confirmed = getsCommit A 7 3 9 ∷ more-answered
 
-set-table : (t : List ℕ) (b o : List ℕ) (s : Settings) (l : Left) → left t (initialize b o s) ≡ l → tableAfter t (initialize b o s) ≡ (if isDone (l .answer .outcome) then l .table else t)
+set-table : (t : List ℕ) (b o s : List ℕ) (l : Left) → left t (initialize b o s) ≡ l → tableAfter t (initialize b o s) ≡ (if not (isDone (l .answer .outcome)) then t else l .table)
 unfolding tableAfter done
-set-table t b o s l e = ap (λ (x : Left). if isDone (x .answer .outcome) then x .table else t) e
+set-table t b o s l e = ap (λ (x : Left). if not (isDone (x .answer .outcome)) then t else x .table) e
 
 module _ where
   table-A1 : tableOf (setUp A ∷ []) A ≡ empty A
@@ -309,7 +308,7 @@ tells =
       to-B = refl;
     }
 
-set-story : (t b o : List ℕ) (s : Settings) (a : List ℕ) (l : Left) → left t (initialize b o s) ≡ l → isDone (l .answer .outcome) ≡ true → storyAfter t (initialize b o s) a nothingYet ≡ nothingYet
+set-story : (t b o s a : List ℕ) (l : Left) → left t (initialize b o s) ≡ l → isDone (l .answer .outcome) ≡ true → storyAfter t (initialize b o s) a nothingYet ≡ nothingYet
 unfolding storyAfter done cleared
 set-story t b o s a l e d =
     ap (λ (x : Left). if isDone (x .answer .outcome) then cleared nothingYet else nothingYet) e ∙ ap (λ (x : Bool). if x then cleared nothingYet else nothingYet) d
@@ -449,7 +448,7 @@ every-comes (and p r) last = p
 every-comes (and p r) (sooner c) = every-comes r c
 
 record Stays (e : Entry) (h : List Entry) : Type 0 where
-  stays : (b o : List ℕ) (s : Settings) → e .call ≡ initialize b o s → o ≡ own (e .side)
+  stays : (b o s : List ℕ) → e .call ≡ initialize b o s → o ≡ own (e .side)
 
 record Hears (e : Entry) (h : List Entry) : Type 0 where
   hears : (X : Side) (a : List ℕ) (t : ℕ) (f r x : List ℕ) (v : ℕ) → e .side ≡ X → e .call ≡ receive a t f r x v → Sent (other X) (own X) f h
@@ -671,13 +670,13 @@ body-bytes q x f r b =
     (bytes-append (oct 2 3) (oct 2 q ++ (oct 2 x ++ oct 2 f)) (bytes-oct 2 3)
     (bytes-append (oct 2 q) (oct 2 x ++ oct 2 f) (bytes-oct 2 q) (bytes-append (oct 2 x) (oct 2 f) (bytes-oct 2 x) (bytes-oct 2 f)))) b
 
-settings-handed : SettingsHanded settings
-settings-handed = record { count = lit< tt; groups = refl; group = groups; threshold = lit< tt }
-  where
-    groups : (i : ℕ) → getD (19 ∷ 0 ∷ []) i 0 < 65536
-    groups zero = lit< tt
-    groups (suc zero) = lit< tt
-    groups (suc (suc i)) = lit< tt
+settings-handed : calls-of.Octets 16 settings
+settings-handed = record {
+  many = refl;
+  bytes = bytes-append (1 ∷ 0 ∷ 19 ∷ 0 ∷ 0 ∷ 0 ∷ []) (0 ∷ 0 ∷ 5 ∷ 0 ∷ 0 ∷ 0 ∷ 0 ∷ 0 ∷ 0 ∷ 0 ∷ [])
+      (six 1 0 19 0 0 0 (lit< tt) (lit< tt) (lit< tt) (lit< tt) (lit< tt) (lit< tt))
+      (bytes-append (0 ∷ 0 ∷ 5 ∷ 0 ∷ 0 ∷ 0 ∷ []) (replicate 4 0) (six 0 0 5 0 0 0 (lit< tt) (lit< tt) (lit< tt) (lit< tt) (lit< tt) (lit< tt)) (bytes-same 4 0 (lit< tt)));
+}
 
 set-up-handed : (X : Side) → Handed (setUp X)
 set-up-handed X = record { call = an-initialize (bytes-same 896 0 (lit< tt)) (own-six X) settings-handed; value = value-handed 0 (lit< tt) }

@@ -22,6 +22,7 @@ use Rattle.groups.specs.Groups as groups
 use Rattle.frame.specs.Frame as frame
 use Rattle.record.specs.Codec as codec
 use Rattle.record.specs.Layout as layout
+use Rattle.record.specs.SettingsOctets as settings-octets
 use Rattle.soundness.specs.Soundness as soundness
 use Rattle.table.specs.Table as tables
 use Rattle.table.specs.Initial as initial
@@ -156,7 +157,7 @@ unfolding octets.part octets.put octets.num octets.oct octets.allZero octets.sam
     layout.runFields layout.runOf layout.encodeRun layout.decodeRun layout.linkWidths layout.linkFields layout.linkOf layout.encodeLink
     layout.decodeLink layout.peerWidths layout.peerFields layout.peerOf layout.encodePeer layout.decodePeer layout.headerWidths layout.frontFields
     layout.backFields layout.headerFields layout.headerFront layout.headerBack layout.headerOf layout.encodeHeader layout.decodeHeader layout.noRun
-    layout.noLink layout.noPeer soundness.ownOk soundness.usable soundness.allKnown soundness.eachOnce soundness.groupsOk soundness.settingsOk
+    layout.noLink layout.noPeer settings-octets.settingsOf settings-octets.reservedZero soundness.ownOk soundness.usable soundness.allKnown soundness.eachOnce soundness.groupsOk soundness.settingsOk
     soundness.headerOk soundness.commitOk soundness.tokenOk soundness.rejectedOk soundness.committedOk soundness.confirmedOk soundness.runOk
     soundness.finishedOk soundness.linkOk soundness.freeOk soundness.inUseOk soundness.peerOk tables.peersOf tables.octetsOf tables.decodeTable
     tables.encodeTable tables.slot tables.belongs tables.usedCount tables.openCount tables.finds tables.freeSlot tables.lookBy tables.look
@@ -166,7 +167,7 @@ unfolding octets.part octets.put octets.num octets.oct octets.allZero octets.sam
     book.confirmAct book.frameAct book.delay book.setT0 book.supersede book.formedRun book.forming book.startedRun book.starting book.linkOfRun
     book.accepting book.answeringCommit book.confirmingCommit book.perform book.onFrame book.onStart seen.view seen.storedToken seen.commitIn
     seen.message answers.said answers.quiet answers.seating answers.finishAt answers.finishes answers.turned calls.crowded calls.full
-    calls.initializes calls.admitStart calls.startTurn calls.startStep calls.initiates calls.admitFrame calls.frameTurn calls.frameStep calls.receives
+    calls.initializes calls.initializesFrom calls.admitStart calls.startTurn calls.startStep calls.initiates calls.admitFrame calls.frameTurn calls.frameStep calls.receives
 plays =
     record {
       set-up-A = refl;

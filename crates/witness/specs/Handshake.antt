@@ -5,7 +5,6 @@ use Prim.Native.Nat.{ℕ}
 use lib.ListN.{replicate}
 use Rattle.protocol.specs.Model.{Side, A, B, other}
 use Rattle.frame.specs.Frame.{commitBody, confirmBody}
-use Rattle.record.specs.declared.Settings.{Settings}
 use Rattle.agreement.specs.Calls.{initialize, initiate, receive, Entry}
 
 -- the two own addresses
@@ -13,8 +12,9 @@ abbrev pub own : Side → List ℕ
 own A = 2 ∷ 0 ∷ 0 ∷ 0 ∷ 0 ∷ 1 ∷ []
 own B = 2 ∷ 0 ∷ 0 ∷ 0 ∷ 0 ∷ 2 ∷ []
 
-abbrev pub settings : Settings
-settings = record { count = 1; groups = 19 ∷ 0 ∷ []; threshold = 5 }
+-- one group, 19, and threshold 5
+abbrev pub settings : List ℕ
+settings = 1 ∷ 0 ∷ 19 ∷ 0 ∷ 0 ∷ 0 ∷ 0 ∷ 0 ∷ 5 ∷ replicate 7 0
 
 -- a commit as stored, and as sent; a Confirm's value
 abbrev pub commit : ℕ → List ℕ

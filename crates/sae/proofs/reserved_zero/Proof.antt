@@ -1,5 +1,5 @@
 -- `sae::reserved_zero` meets its contract: each return by its law of Laws.
-use Rattle.sae.specs.Interface.{reservedZero}
+use Rattle.record.specs.SettingsOctets.{reservedZero}
 use borrow.Author.Needs.{needs}
 use Rattle.sae.proofs.reserved_zero.Statement.{statement}
 use Rattle.sae.proofs.reserved_zero.Tie as tie
