@@ -2,6 +2,7 @@
 pub mod Good
 pub mod Ends
 pub mod Refuses
+pub mod Lookups
 pub mod Sound
 pub mod Isolated
 pub mod Isolation

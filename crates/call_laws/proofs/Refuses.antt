@@ -112,7 +112,7 @@ module _ (c : Cause) (after : List Cause) where
       go false w l = w
 
 -- an answer that is the first cause's
-exact : {A : Type 0} (f : A → ℕ) (r : Refusal → A) (o : A) (cs : List Cause) (x : A) → ((c : Refusal) → f (r c) ≡ number c) → f o ≡ 0 → rising 0 cs ≡ true → x ≡ firstCause r cs o
+pub exact : {A : Type 0} (f : A → ℕ) (r : Refusal → A) (o : A) (cs : List Cause) (x : A) → ((c : Refusal) → f (r c) ≡ number c) → f o ≡ 0 → rising 0 cs ≡ true → x ≡ firstCause r cs o
     → Exact (f x) cs
 unfolding firstCause
 exact f r o cs x e z w q =

@@ -90,6 +90,13 @@ frameCauses t a time frame fresh expected verdict =
 unfoldable pub clockCauses : List ℕ → List Cause
 clockCauses t = cause why.Unsound (not (sound t)) ∷ []
 
+-- the next deadline has the clock's; where a record lies:
+unfoldable pub findCauses : List ℕ → List ℕ → List Cause
+findCauses t a =
+    cause why.Unsound (not (sound t))
+    ∷ cause why.Address (not (usable (decodeTable t .header .own) a))
+    ∷ []
+
 -- outside the shapes; longer than the buffer
 abbrev pub outside : Drawn → Bool
 outside Outside = true

@@ -25,7 +25,7 @@ const HALF: u32 = 2147483648;
 const LIFETIME: u32 = 86400000;
 
 // "A deadline is due when (reading − deadline) modulo 2^32 is below 2^31."
-fn is_due(time: u32, at: u32) -> bool
+pub fn is_due(time: u32, at: u32) -> bool
     ensures { λ r. ⌜ r ≡ due time at ⌝ }
 {
     let gone = std::num::wrapping_sub_u32(time, at);

@@ -40,7 +40,9 @@ use Rattle.writer.specs.declared.Wrote.{Wrote}
 use Rattle.writer.specs.declared.Wrote.the-variants as wrote
 use Rattle.writer.specs.Writer.{LeftOut, LeavesOut, writesParts, recordCommit, recordConfirm, recordBody, writesRecord}
 use Rattle.writer.proofs.Theorems.{Draws, outside, short, whole, FromParts, malformed, made, FromRecord, unsound, unusable, absent, drawn, parts-one, record-one}
-use Rattle.sae.specs.Interface.{noneDueFlag, frameOctets, framedOctets, framesOctets, answerOctets, isRefused, answerLeft, Returns, hasToken, tokenAt, hasValue, restAt, partsOctets, readNumber, readParts, Reads, wroteNumber, writtenLeft, Counted, Writes}
+use Rattle.lookups.specs.declared.Asked.{Asked}
+use Rattle.lookups.specs.Lookups.{askedReturned}
+use Rattle.sae.specs.Interface.{noneDueFlag, frameOctets, framedOctets, framesOctets, answerOctets, isRefused, answerLeft, Returns, hasToken, tokenAt, hasValue, restAt, partsOctets, readNumber, readParts, Reads, wroteNumber, writtenLeft, Counted, Writes, askedLeft, Asks}
 
 -- ---- octets, one store for each field
 
@@ -331,3 +333,8 @@ counted-record t a q value out u w l = subst Counted (sym (l .answer)) (record-c
 
 pub wrote-replied : (w : Wrote) (u : List ℕ) (l : LeftOut) (r n given : ℕ) → LeavesOut w u l → r ≡ wroteNumber w → n ≡ writtenLeft w given → Writes r u n given l
 wrote-replied w u l r n given e q k = record { returns = q ∙ ap wroteNumber (e .answer); leaves = e .out; counts = k ∙ ap (λ (y : Wrote). writtenLeft y given) (e .answer) }
+
+-- ---- a lookup
+
+pub asked-replied : (a x : Asked) (r left given : ℕ) → a ≡ x → (r ≡ askedReturned a) × (left ≡ askedLeft a given) → Asks r left given x
+asked-replied a x r left given e w = record { returns = w .0 ∙ ap askedReturned e; leaves = w .1 ∙ ap (λ (y : Asked). askedLeft y given) e }

@@ -1,4 +1,5 @@
--- A call that returns a number other than 0 leaves every lent octet as it was: the table, the buffer, the answer, the parts and the length written.
+-- A call that returns a number other than 0 leaves every lent octet as it was: the table, the buffer, the answer, the parts, the length written and the
+-- number asked for.
 use mathlib.Core.Path.{_≡_, refl, ap, _∙_}
 use mathlib.Core.Bool.{Bool, true, false}
 use mathlib.Core.List.{List}
@@ -28,7 +29,9 @@ use Rattle.writer.specs.declared.Wrote.{Wrote}
 use Rattle.writer.specs.declared.Wrote.the-variants as wrote
 use Rattle.writer.specs.Writer.{LeftOut, writesParts, writesRecord}
 use Rattle.writer.proofs.Theorems.{parts-refused, record-refused}
-use Rattle.sae.specs.Interface.{answerLeft, Returns, readNumber, readParts, partsOctets, Reads, wroteNumber, writtenLeft, Writes}
+use Rattle.lookups.specs.declared.Asked.{Asked}
+use Rattle.lookups.specs.declared.Asked.the-variants as asked
+use Rattle.sae.specs.Interface.{answerLeft, Returns, readNumber, readParts, partsOctets, Reads, wroteNumber, writtenLeft, Writes, Asks}
 
 -- ---- calls
 
@@ -131,3 +134,9 @@ write-parts-refused t q x g n token rest out left r written given e d = write-re
 
 pub write-record-refused : (t a : List ℕ) (q : ℕ) (value out left : List ℕ) (r written given : ℕ) → Writes r left written given (writesRecord t a q value out) → (r ≡ 0 → ⊥) → Unwritten out left given written
 write-record-refused t a q value out left r written given e d = write-refused _ out left r written given (record-refused t a q value out) e d
+
+-- ---- the lookups
+
+pub ask-refused : (a : Asked) (r left given : ℕ) → Asks r left given a → (r ≡ 0 → ⊥) → left ≡ given
+ask-refused (asked.Number n) r left given e d = absurd (d (e .returns))
+ask-refused (asked.Refused c) r left given e d = e .leaves

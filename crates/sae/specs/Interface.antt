@@ -21,6 +21,9 @@ use Rattle.answers.specs.Answers.{Left, returned, number}
 use Rattle.writer.specs.declared.Wrote.{Wrote}
 use Rattle.writer.specs.declared.Wrote.the-variants as wrote
 use Rattle.writer.specs.Writer.{LeftOut}
+use Rattle.lookups.specs.declared.Asked.{Asked}
+use Rattle.lookups.specs.declared.Asked.the-variants as asked
+use Rattle.lookups.specs.Lookups.{askedReturned}
 
 -- ---- answer, 28 octets: 0 none due (1, else 0); 1 event; 2–3 fresh group used; 4–9 address; 10 number of frames; 11 zero; 12–19 and 20–27 the frames
 
@@ -113,3 +116,13 @@ pub record Writes (r : ℕ) (out : List ℕ) (written given : ℕ) (l : LeftOut)
   pub returns : r ≡ wroteNumber (l .answer)
   pub leaves : out ≡ l .out
   pub counts : written ≡ writtenLeft (l .answer) given
+
+-- ---- a lookup's whole outcome: the number returned, and the number asked for at exit
+
+abbrev pub askedLeft : Asked → ℕ → ℕ
+askedLeft (asked.Number n) old = n
+askedLeft (asked.Refused c) old = old
+
+pub record Asks (r left given : ℕ) (a : Asked) : Type 0 where
+  pub returns : r ≡ askedReturned a
+  pub leaves : left ≡ askedLeft a given

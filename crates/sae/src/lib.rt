@@ -1,15 +1,17 @@
-// The C interface: what firmware links. Thin over engine, writer and message. Every function returns 0 or the number of a refusal, and on a refusal
-// leaves every lent octet, the answer and the length written too.
+// The C interface: what firmware links. Thin over engine, writer, lookups and message. Every function returns 0 or the number of a refusal, and on a
+// refusal leaves every lent octet, the answer and the number asked for too.
 ghost use mathlib.Core.Path.{_≡_};
 ghost use Rattle.record.specs.SettingsOctets.{settingsOf, reservedZero};
 ghost use Rattle.rules.specs.Book.{eventNumber};
 ghost use Rattle.answers.specs.Answers.{Leaves, returned};
 ghost use Rattle.calls.specs.Calls.{initializesFrom, initiates, kills, receives, expires};
 ghost use Rattle.writer.specs.Writer.{writesParts, writesRecord};
-ghost use Rattle.sae.specs.Interface.{noneDueFlag, frameOctets, framedOctets, framesOctets, answerOctets, isRefused, answerLeft, Returns, hasToken, tokenAt, hasValue, restAt, partsOctets, Reads, wroteNumber, writtenLeft, Counted, Writes};
+ghost use Rattle.lookups.specs.Lookups.{askedReturned, asksDeadline, asksOffset};
+ghost use Rattle.sae.specs.Interface.{noneDueFlag, frameOctets, framedOctets, framesOctets, answerOctets, isRefused, answerLeft, Returns, hasToken, tokenAt, hasValue, restAt, partsOctets, Reads, wroteNumber, writtenLeft, Counted, Writes, askedLeft, Asks};
 use answers::Answer;
 use answers::Outcome;
 use answers::Refusal;
+use lookups::Asked;
 use message::View;
 use record::Settings;
 use rules::Event;
@@ -348,4 +350,35 @@ pub extern "C" fn sae_read(t: &[u8], body: &[u8], parts: &mut [u8; 20]) -> u32
     }
     *parts = parts_octets(v);
     0
+}
+
+// The number to return, and the number asked for unless the lookup was refused.
+fn asked_reply(a: Asked, number: &mut u32) -> u32
+    ensures { λ r. ⌜ (r ≡ askedReturned a) × (now (number .exit) ≡ askedLeft a (now (number .entry))) ⌝ }
+{
+    match a {
+        Asked::Number(n) => {
+            *number = n;
+            0
+        }
+        Asked::Refused(c) => answers::number_of(c),
+    }
+}
+
+// How long until the next deadline.
+#[no_mangle]
+pub extern "C" fn sae_next_deadline(t: &[u8], time: u32, milliseconds: &mut u32) -> u32
+    ensures { λ r. ⌜ Asks r (now (milliseconds .exit)) (now (milliseconds .entry)) (asksDeadline (now (t .entry)) time) ⌝ }
+{
+    let a = lookups::next_deadline(t, time);
+    asked_reply(a, milliseconds)
+}
+
+// Where the record of an address lies.
+#[no_mangle]
+pub extern "C" fn sae_find(t: &[u8], address: &[u8; 6], offset: &mut u32) -> u32
+    ensures { λ r. ⌜ Asks r (now (offset .exit)) (now (offset .entry)) (asksOffset (now (t .entry)) (now (address .entry))) ⌝ }
+{
+    let a = lookups::find(t, *address);
+    asked_reply(a, offset)
 }

@@ -1,0 +1,2 @@
+-- What the contracts of `lookups` cite.
+pub mod Lookups
