@@ -1,4 +1,4 @@
-// What the acts of the rule book share, in a record's own octets: the paper's own words "Set t0", "Repeat", "Give up", "Drop" and "Form", how a run
+// What the acts of the rule book share, in a record's own octets: the scope's own words "Set t0", "Repeat", "Give up", "Drop" and "Form", how a run
 // becomes a link, and how a link ends.
 ghost use mathlib.Core.Path.{_≡_};
 ghost use Prim.Native.Nat.{_+_, _≤_, _<_};

@@ -69,7 +69,7 @@ lawful =
       expire-address = good.expire-address;
     }
 
--- the paper's premises are more than what is needed
+-- the scope's premises are more than what is needed
 pub premises-needed : (own : Side → List ℕ) (h : List Entry) → Premises own h → Needed own h
 premises-needed own h P = record {
   once = λ e d before back f c k z u v. P .once e d before back f c k (u .uses) (v .uses);

@@ -1,4 +1,4 @@
--- Demand 3 with less asked of the list than the paper's premises. Nothing is asked of own addresses, of calls about other addresses, of frames that form
+-- Demand 3 with less asked of the list than the scope's premises. Nothing is asked of own addresses, of calls about other addresses, of frames that form
 -- no pair and of Confirms that are not accepted; and of single links only that an accepted Confirm is right. `Premises` gives this (`premises-needed`),
 -- and demand 3 is proved from this alone (`demand3-needed`), both in proofs/Demand.antt.
 use mathlib.Core.Path.{_≡_}

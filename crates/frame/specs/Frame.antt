@@ -1,4 +1,4 @@
--- Paper 01, 'Frame bodies': the shapes of Authentication frame bodies, as a reader takes them apart and as a writer makes them.
+-- 'Frame bodies': the shapes of Authentication frame bodies, as a reader takes them apart and as a writer makes them.
 use mathlib.Core.Bool.{Bool, true, false}
 use mathlib.Core.List.{List, [], _++_}
 use Prim.Native.Nat.{ℕ, _+_, _-_}

@@ -1,4 +1,4 @@
--- Paper 01, the writer: which octets a frame's parts make, what is answered, and what the lent buffer holds then.
+-- The writer: which octets a frame's parts make, what is answered, and what the lent buffer holds then.
 use mathlib.Core.Bool.{Bool, true, false, _&&_}
 use mathlib.Core.List.{List}
 use mathlib.Core.Path.{_≡_}

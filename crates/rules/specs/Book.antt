@@ -1,6 +1,6 @@
--- THE RULE BOOK: paper 01's rules for one peer, to be read from top to bottom.
+-- THE RULE BOOK: the scope's rules for one peer, to be read from top to bottom.
 --   1  what a rule sees        what the table says, what the call brings, the frame heard, the peer's record
---   2  the ladders             for each state and message: test, act, and the paper's sentence on the line
+--   2  the ladders             for each state and message: test, act, and the scope's sentence on the line
 --   3  the acts                what each does to the record, what it sends and tells
 --   4  the rules               perform what the ladder says; there is no other saying of them
 -- A request that changes when something is done changes a line of 2; one that changes what is done changes a case of 3.
@@ -78,7 +78,7 @@ deadline time delay = (time + delay) % 2 ^ 32
 unfoldable pub due : ℕ → ℕ → Bool
 due time deadline = ltb ((time + 2 ^ 32 - deadline) % 2 ^ 32) (2 ^ 31)
 
--- ---- tests that read like the paper
+-- ---- tests that read like the scope
 
 infixl 20 _is_
 abbrev pub _is_ : ℕ → ℕ → Bool
@@ -296,7 +296,7 @@ groupRefusalFrame group = record { sequence = 1; status = 77; group = group; cou
 abbrev pub confirmFrame : ℕ → Frame
 confirmFrame counter = record { sequence = 2; status = 0; group = 0; counter = counter }
 
--- ---- the paper's own words: "Set t0", "Repeat", "Give up", "Drop", "Form"
+-- ---- the scope's own words: "Set t0", "Repeat", "Give up", "Drop", "Form"
 
 -- 40 × 2^Sync
 unfoldable pub delay : Timing → ℕ → ℕ

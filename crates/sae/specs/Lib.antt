@@ -1,2 +1,3 @@
--- What the contracts of `sae` cite.
+-- What the contracts of `sae` cite, and what its theorems say.
 pub mod Interface
+pub mod RoundTrip

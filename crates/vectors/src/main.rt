@@ -1,11 +1,15 @@
 // Plays the cases of standard input, one to a line, and writes one line for each case.
-//   read HEX    what a body is to a reader with groups 19 and 20: its length, kind and numbers
+//   read HEX    what a body is to a reader with groups 19 and 20: its length, kind and numbers; the lines `has` and `again` are of this body
+//   has F V     a published field of that body, group, counter, token, scalar, element or value: whether the reader hands back V for it, a number
+//               in decimal or octets in HEX (- for none)
+//   again       that body written from the parts that the reader handed back: whether the octets are the same
 //   new         a table of one slot, set up with the factory settings; it stands until the next
 //   only        the same with group 19 alone
 //   begin       start with the peer at reading 0, and a stock of zeros
 //   frame HEX   a frame from the peer at reading 0, with verdict 1 and a stock of zeros
 //   silent      the clock at every millisecond from 0 on: the readings at which it served, until the run is given up
-// A line that begins with # is written again; any other line is left out. Calls write the number returned, event, stock group used, frames.
+// Reader and writer of `has` and `again` are the C functions over the table that stands. A line that begins with # is written again; any other
+// line is left out. Calls write the number returned, event, stock group used, frames.
 ghost use mathlib.Core.Path.{_≡_};
 ghost use Prim.Native.Nat.{_<_, _≤_};
 ghost use lib.ListN.{length};
@@ -23,6 +27,17 @@ const PEER: [u8; 6] = [2, 0, 0, 0, 0, 2];
 
 // The octets of a table of one slot.
 const TABLE: usize = 896;
+
+// What the reader hands back of a body: its numbers, where its token stands and how long it is, and where scalar or value stands.
+struct Parts {
+    sequence: u16,
+    status: u16,
+    group: u16,
+    counter: u16,
+    token: usize,
+    toklen: usize,
+    rest: usize,
+}
 
 fn wide16(x: u16) -> u64 {
     x as u64
@@ -167,27 +182,195 @@ fn unhex(text: &[u8], out: &mut [u8]) -> usize {
     i
 }
 
-// ---- the cases
-
-// What the first n octets are to a reader with groups 19 and 20.
-fn read_of(body: &[u8], n: usize) -> Body {
-    let groups: [u16; 2] = [19, 20];
-    if n > body.len() {
-        return Body::Malformed;
+// The number that the text has in decimal, as far as it is below 65,536.
+fn decimal(text: &[u8]) -> u64 {
+    let mut n: u64 = 0;
+    let mut i: usize = 0;
+    while i < text.len() {
+        if n > 65535 {
+            return n;
+        }
+        let d = digit(text[i]);
+        n = n * 10 + d as u64;
+        i += 1;
     }
-    let start: usize = 0;
-    frame::read(&groups, &body[start..n])
+    n
 }
 
-fn run_read(text: &[u8]) {
-    let mut body = [0u8; 2400];
-    let n = unhex(text, &mut body);
-    let b = read_of(&body, n);
+// ---- parts of a slice
+
+// The first n octets, or all.
+fn first(s: &[u8], n: usize) -> &[u8] {
+    if n > s.len() {
+        return s;
+    }
+    let start: usize = 0;
+    &s[start..n]
+}
+
+// The octets from an offset on, or none.
+fn from(s: &[u8], at: usize) -> &[u8] {
+    let all = s.len();
+    if at > all {
+        return &s[all..all];
+    }
+    &s[at..all]
+}
+
+// Where the part that begins at `from` ends: at the mark, or with the text.
+fn end(s: &[u8], from: usize, mark: u8) -> usize
+    requires { ⌜ from ≤ length (now s) ⌝ }
+    ensures { λ r. ⌜ (from ≤ r) × (r ≤ length (now (s .entry))) ⌝ }
+{
+    let mut i = from;
+    while i < s.len() {
+        if s[i] == mark {
+            return i;
+        }
+        i += 1;
+    }
+    i
+}
+
+// ---- what a body is
+
+fn read_of(body: &[u8]) -> Body {
+    let groups: [u16; 2] = [19, 20];
+    frame::read(&groups, body)
+}
+
+// The body is kept; answers its length.
+fn run_read(text: &[u8], body: &mut [u8]) -> usize {
+    let n = unhex(text, body);
+    let b = read_of(first(body, n));
     io::write_all(1, b"read");
     number(wide_size(n));
     print_body(b);
     ends();
+    n
 }
+
+// ---- a body's fields, and the body written again
+
+// The octets of the parts; zeros where the reader refuses.
+fn read_parts(t: &[u8], body: &[u8]) -> [u8; 20] {
+    let mut x = [0u8; 20];
+    sae::sae_read(t, body, &mut x);
+    x
+}
+
+fn parts_of(x: [u8; 20]) -> Parts {
+    let token = octets::get32(&x[..], 8);
+    let toklen = octets::get32(&x[..], 12);
+    let rest = octets::get32(&x[..], 16);
+    Parts {
+        sequence: octets::get16(&x[..], 0),
+        status: octets::get16(&x[..], 2),
+        group: octets::get16(&x[..], 4),
+        counter: octets::get16(&x[..], 6),
+        token: token as usize,
+        toklen: toklen as usize,
+        rest: rest as usize,
+    }
+}
+
+fn token_in(body: &[u8], p: Parts) -> &[u8] {
+    first(from(body, p.token), p.toklen)
+}
+
+// Scalar and element, or a Confirm's value of 32 octets; 0 is handed back for a body that has neither.
+fn rest_in(body: &[u8], p: Parts) -> &[u8] {
+    let rest = from(body, p.rest);
+    if p.rest == 0 {
+        return first(rest, 0);
+    }
+    if p.sequence == 2 {
+        return first(rest, 32);
+    }
+    rest
+}
+
+// A field of octets by the first letter of its name.
+fn has_octets(letter: u8, body: &[u8], p: Parts, wanted: &[u8]) -> bool {
+    let scalar = groups::scalar_length(p.group);
+    let rest = rest_in(body, p);
+    if letter == b't' {
+        return octets::is_same(token_in(body, p), wanted);
+    }
+    if letter == b's' {
+        return octets::is_same(first(rest, scalar), wanted);
+    }
+    if letter == b'e' {
+        return (p.sequence == 1) & octets::is_same(from(rest, scalar), wanted);
+    }
+    if letter == b'v' {
+        return (p.sequence == 2) & octets::is_same(rest, wanted);
+    }
+    false
+}
+
+// A field by the first letter of its name, as the text has it; a refused body has none.
+fn has(letter: u8, body: &[u8], p: Parts, text: &[u8]) -> bool {
+    let mut wanted = [0u8; 2400];
+    if p.sequence == 0 {
+        return false;
+    }
+    if letter == b'g' {
+        return wide16(p.group) == decimal(text);
+    }
+    if letter == b'c' {
+        return wide16(p.counter) == decimal(text);
+    }
+    let n = unhex(text, &mut wanted);
+    has_octets(letter, body, p, first(&wanted, n))
+}
+
+fn print_same(same: bool) {
+    if same {
+        io::write_all(1, b" agrees\n");
+        return;
+    }
+    io::write_all(1, b" differs\n");
+}
+
+// The field's name, a space, then what is published for it.
+fn run_has(text: &[u8], t: &[u8], body: &[u8]) {
+    if text.len() == 0 {
+        return;
+    }
+    let p = parts_of(read_parts(t, body));
+    let e = end(text, 0, b' ');
+    io::write_all(1, first(text, e));
+    print_same(has(text[0], body, p, from(from(text, e), 1)));
+}
+
+// The parts are written into a lent buffer; answers the length written, 0 where the writer refuses.
+fn write_again(t: &[u8], body: &[u8], p: Parts, out: &mut [u8]) -> usize {
+    let mut written: u32 = 0;
+    sae::sae_write_parts(
+        t,
+        p.sequence,
+        p.status,
+        p.group,
+        p.counter,
+        token_in(body, p),
+        rest_in(body, p),
+        out,
+        &mut written,
+    );
+    written as usize
+}
+
+fn run_again(t: &[u8], body: &[u8]) {
+    let mut out = [170u8; 2400];
+    let p = parts_of(read_parts(t, body));
+    let n = write_again(t, body, p, &mut out);
+    io::write_all(1, b"again");
+    number(wide_size(n));
+    print_same(octets::is_same(first(&out, n), body));
+}
+
+// ---- calls
 
 fn run_new(t: &mut [u8]) {
     io::write_all(1, b"new");
@@ -222,15 +405,6 @@ fn received(t: &mut [u8], body: &[u8], two: bool) -> Answer {
     engine::receive(t, PEER, 0, body, &stock[..144], &expected, 1)
 }
 
-// The frame is the first n octets.
-fn received_of(t: &mut [u8], body: &[u8], n: usize, two: bool) -> Answer {
-    if n > body.len() {
-        return received(t, body, two);
-    }
-    let start: usize = 0;
-    received(t, &body[start..n], two)
-}
-
 fn has_two(t: &[u8]) -> bool {
     if t.len() > 22 {
         return t[22] == 2;
@@ -249,7 +423,7 @@ fn run_frame(text: &[u8], t: &mut [u8]) {
     let n = unhex(text, &mut body);
     let two = has_two(t);
     io::write_all(1, b"frame");
-    print_answer(received_of(t, &body, n, two));
+    print_answer(received(t, first(&body, n), two));
 }
 
 // One reading of the clock; answers whether a run was given up.
@@ -287,8 +461,8 @@ fn run_silent(t: &mut [u8]) {
     ends();
 }
 
-// A case by the first letter of its line.
-fn run_line(line: &[u8], t: &mut [u8]) {
+// A call, or a remark, by the first letter of its line.
+fn run_call(line: &[u8], t: &mut [u8]) {
     if line.len() < 3 {
         return;
     }
@@ -314,38 +488,38 @@ fn run_line(line: &[u8], t: &mut [u8]) {
         run_silent(t);
         return;
     }
-    if line.len() < 6 {
-        return;
-    }
-    if c == b'r' {
-        run_read(&line[5..]);
-        return;
-    }
     if c == b'f' {
-        run_frame(&line[6..], t);
+        run_frame(from(line, 6), t);
     }
 }
 
-// Where the line that begins at `from` ends.
-fn line_end(s: &[u8], from: usize) -> usize
-    requires { ⌜ from ≤ length (now s) ⌝ }
-    ensures { λ r. ⌜ (from ≤ r) × (r ≤ length (now (s .entry))) ⌝ }
-{
-    let mut i = from;
-    while i < s.len() {
-        if s[i] == b'\n' {
-            return i;
-        }
-        i += 1;
+// A case by the first letter of its line; the first n octets of `body` are the body read last, whose length is answered.
+fn run_line(line: &[u8], t: &mut [u8], body: &mut [u8], n: usize) -> usize {
+    if line.len() < 3 {
+        return n;
     }
-    i
+    let c = line[0];
+    if c == b'r' {
+        return run_read(from(line, 5), body);
+    }
+    if c == b'h' {
+        run_has(from(line, 4), t, first(body, n));
+        return n;
+    }
+    if c == b'a' {
+        run_again(t, first(body, n));
+        return n;
+    }
+    run_call(line, t);
+    n
 }
 
-fn run_all(s: &[u8], t: &mut [u8]) {
+fn run_all(s: &[u8], t: &mut [u8], body: &mut [u8]) {
+    let mut n: usize = 0;
     let mut i: usize = 0;
     while i < s.len() {
-        let e = line_end(s, i);
-        run_line(&s[i..e], t);
+        let e = end(s, i, b'\n');
+        n = run_line(&s[i..e], t, body, n);
         if e >= s.len() {
             return;
         }
@@ -356,6 +530,7 @@ fn run_all(s: &[u8], t: &mut [u8]) {
 fn main() {
     let mut text = io::large_buffer();
     let mut t = [0u8; TABLE];
+    let mut body = [0u8; 2400];
     let n = io::read_full(0, &mut text);
-    run_all(&text[..n], &mut t);
+    run_all(&text[..n], &mut t, &mut body);
 }

@@ -1,3 +1,4 @@
--- The crate's laws and what holds of every frame written.
+-- The crate's laws, what holds of every frame written, and the round trips.
 pub mod Laws
 pub mod Theorems
+pub mod RoundTrip

@@ -1,2 +1,3 @@
--- What the contracts of `writer` cite.
+-- What the contracts of `writer` cite, and what its theorems say.
 pub mod Writer
+pub mod RoundTrip
