@@ -59,6 +59,8 @@ mod c {
             written: *mut u32,
         ) -> u32;
         pub fn sae_read(table: *const u8, table_len: usize, frame: *const u8, frame_len: usize, parts: *mut u8) -> u32;
+        pub fn sae_next_deadline(table: *const u8, table_len: usize, now: u32, milliseconds: *mut u32) -> u32;
+        pub fn sae_find(table: *const u8, table_len: usize, address: *const u8, offset: *mut u32) -> u32;
     }
 }
 
@@ -166,5 +168,13 @@ impl Engine for Archive {
 
     fn read(&self, table: &[u8], frame: &[u8], parts: &mut [u8; PARTS]) -> u32 {
         unsafe { c::sae_read(table.as_ptr(), table.len(), frame.as_ptr(), frame.len(), parts.as_mut_ptr()) }
+    }
+
+    fn next_deadline(&self, table: &[u8], now: u32, milliseconds: &mut u32) -> u32 {
+        unsafe { c::sae_next_deadline(table.as_ptr(), table.len(), now, milliseconds) }
+    }
+
+    fn find(&self, table: &[u8], address: &Address, offset: &mut u32) -> u32 {
+        unsafe { c::sae_find(table.as_ptr(), table.len(), address.as_ptr(), offset) }
     }
 }

@@ -150,6 +150,8 @@ fn rows(slots: usize) -> Vec<Row> {
         row("receive: a Confirm, dropped", &confirmed, receive(last, &confirm, 0), 0),
         row("receive: a Confirm, accepted", &confirmed, receive(last, &confirm, 1), 0),
         row("write_record: a Commit", &late, Call::WriteRecord { address: last, sequence: 1, value: vec![], room: 500 }, 0),
+        row("next_deadline: none due", &full, Call::NextDeadline { now: NOW }, 0),
+        row("find: the last slot's address", &full, Call::Find { address: last }, 0),
     ]
 }
 

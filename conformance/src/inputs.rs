@@ -210,7 +210,7 @@ impl Pool {
 
     /// A call of any kind on this table.
     pub fn call(&self, random: &mut Random, table: &[u8]) -> Call {
-        match random.below(40) {
+        match random.below(43) {
             0 => self.initialize(random),
             1..=4 => Call::Initiate { address: self.address(random, table), now: self.now(random, table), fresh: self.fresh(random) },
             5 => Call::Kill { address: self.address(random, table) },
@@ -218,6 +218,8 @@ impl Pool {
             12..=14 => self.write_parts(random),
             15..=17 => self.write_record(random, table),
             18..=20 => Call::Read { frame: self.frame(random, table) },
+            21..=22 => Call::NextDeadline { now: self.now(random, table) },
+            23 => Call::Find { address: self.address(random, table) },
             _ => self.receive(random, table),
         }
     }

@@ -9,7 +9,7 @@ pub const PARTS: usize = 20;
 /// The refusals' numbers run from 1 to this.
 pub const REFUSALS: usize = 11;
 
-/// The eight functions of include/sae.h. Each returns 0 or the refusal's number.
+/// The ten functions of include/sae.h. Each returns 0 or the refusal's number.
 #[allow(clippy::too_many_arguments)]
 pub trait Engine {
     fn name(&self) -> &'static str;
@@ -42,6 +42,8 @@ pub trait Engine {
     ) -> u32;
     fn write_record(&self, table: &[u8], address: &Address, sequence: u16, value: &[u8], out: &mut [u8], written: &mut u32) -> u32;
     fn read(&self, table: &[u8], frame: &[u8], parts: &mut [u8; PARTS]) -> u32;
+    fn next_deadline(&self, table: &[u8], now: u32, milliseconds: &mut u32) -> u32;
+    fn find(&self, table: &[u8], address: &Address, offset: &mut u32) -> u32;
 }
 
 /// The engines there are to run: the plain one, and the archive's if it is linked.
@@ -63,10 +65,13 @@ pub enum Call {
     WriteParts { sequence: u16, status: u16, group: u16, counter: u16, token: Vec<u8>, rest: Vec<u8>, room: usize },
     WriteRecord { address: Address, sequence: u16, value: Vec<u8>, room: usize },
     Read { frame: Vec<u8> },
+    NextDeadline { now: u32 },
+    Find { address: Address },
 }
 
 /// The names of the calls, in the order of `Call::kind`.
-pub const KINDS: [&str; 8] = ["initialize", "initiate", "kill", "receive", "expire", "write_parts", "write_record", "read"];
+pub const KINDS: [&str; 10] =
+    ["initialize", "initiate", "kill", "receive", "expire", "write_parts", "write_record", "read", "next_deadline", "find"];
 
 impl Call {
     pub fn kind(&self) -> usize {
@@ -79,6 +84,8 @@ impl Call {
             Call::WriteParts { .. } => 5,
             Call::WriteRecord { .. } => 6,
             Call::Read { .. } => 7,
+            Call::NextDeadline { .. } => 8,
+            Call::Find { .. } => 9,
         }
     }
 
@@ -104,6 +111,8 @@ impl Call {
                 engine.write_record(table, address, *sequence, value, &mut lent.out, &mut lent.written)
             }
             Call::Read { frame } => engine.read(table, frame, &mut lent.parts),
+            Call::NextDeadline { now } => engine.next_deadline(table, *now, &mut lent.number),
+            Call::Find { address } => engine.find(table, address, &mut lent.number),
         }
     }
 
@@ -123,6 +132,8 @@ pub struct Lent {
     pub parts: [u8; PARTS],
     pub written: u32,
     pub out: Vec<u8>,
+    /// Milliseconds until a deadline, or a record's offset.
+    pub number: u32,
 }
 
 /// Each octet of what is lent before a call.
@@ -135,6 +146,7 @@ impl Lent {
             parts: [UNTOUCHED; PARTS],
             written: u32::from_le_bytes([UNTOUCHED; 4]),
             out: vec![UNTOUCHED; call.room()],
+            number: u32::from_le_bytes([UNTOUCHED; 4]),
         }
     }
 }

@@ -2,15 +2,18 @@
 //! demand 3.
 
 pub mod agreement;
+pub mod air;
 #[cfg(archive)]
 pub mod archive;
 pub mod benchmark;
+pub mod delay;
 pub mod differential;
 pub mod faults;
 pub mod history;
 pub mod inputs;
 pub mod interface;
 pub mod lists;
+pub mod mesh;
 pub mod plain;
 pub mod random;
 pub mod replay;

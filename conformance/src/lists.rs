@@ -6,7 +6,7 @@
 
 use crate::history::{Answer, History, Pair, Sent};
 use crate::inputs::{slots, Pool, LISTS};
-use crate::interface::{Call, Counts};
+use crate::interface::{engines, Call, Counts, Lent};
 use crate::plain::frame::{self, commit_len, Body, COMMIT as COMMIT_FRAME, CONFIRM, SUCCESS, TOKEN_REQUIRED, VALUE};
 use crate::plain::octets::{get16, get32, Address};
 use crate::plain::peer::{at, Peer, RECORD};
@@ -14,6 +14,7 @@ use crate::plain::rules::LINK_COUNTER;
 use crate::plain::table::{self, Groups, Settings, COMMIT, HEADER};
 use crate::random::Random;
 use crate::together::{Fault, Known, Together};
+use crate::trace::{call_line, expected_lines, hex, shorten, table_lines};
 
 /// What the lists came to.
 #[derive(Default)]
@@ -64,9 +65,17 @@ struct Made {
     over: Option<Pair>,
 }
 
+/// What happened at a printer: a buffer became its table, or a call was made, with its place in the whole list.
+enum Step {
+    Table(Vec<u8>),
+    Made(u64, Call),
+}
+
 struct Printer {
     own: Address,
     together: Together,
+    /// All its calls so far, the writers' too.
+    steps: Vec<Step>,
     history: History,
     now: u32,
     /// All that it sent to the other, in order.
@@ -81,6 +90,32 @@ impl Printer {
     fn groups(&self) -> Groups {
         let table = self.together.table();
         Groups { count: table[22], list: [get16(table, 24), get16(table, 26)] }
+    }
+
+    /// A buffer becomes the table.
+    fn set(&mut self, buffer: &[u8], known: Known) {
+        self.together.set(buffer, known);
+        self.steps.push(Step::Table(buffer.to_vec()));
+    }
+
+    /// The lines that make this printer's calls again, with what they return and leave.
+    fn trace(&self) -> String {
+        let mut lines = format!("# the calls of {}, each under its place in the list\n", hex(&self.own));
+        let mut table = Vec::new();
+        for step in &self.steps {
+            match step {
+                Step::Table(buffer) => {
+                    lines += &format!("{}\n", table_lines(buffer));
+                    table = buffer.clone();
+                }
+                Step::Made(place, call) => {
+                    let (before, mut lent) = (table.clone(), Lent::for_call(call));
+                    let number = call.make(engines()[0], &mut table, &mut lent);
+                    lines += &format!("# {place}\n{}\n{}\n", call_line(call), expected_lines(call, &before, number, &lent, &table));
+                }
+            }
+        }
+        lines
     }
 }
 
@@ -103,6 +138,8 @@ struct World<'a> {
     chip: Chip,
     loss: usize,
     serial: u64,
+    /// Calls made so far, the writers' too.
+    made: u64,
     together_before: (bool, bool),
     counts: &'a mut Counts,
     tally: &'a mut Tally,
@@ -116,6 +153,7 @@ pub fn play(random: &mut Random, honest: bool, calls: usize, counts: &mut Counts
     let printers = [pool.own, other].map(|own| Printer {
         own,
         together: Together::new(&[], Known::Nothing),
+        steps: Vec::new(),
         history: History::default(),
         now: *random.pick(&[0, u32::MAX - 500, 1 << 31, 12345]),
         made: Vec::new(),
@@ -126,7 +164,8 @@ pub fn play(random: &mut Random, honest: bool, calls: usize, counts: &mut Counts
     let loss = *random.pick(&[0, 5, 20, 50]);
     tally.lists += 1;
     tally.honest += u64::from(honest);
-    let mut world = World { random, honest, printers, pool, chip, loss, serial: 0, together_before: (false, false), counts, tally };
+    let mut world =
+        World { random, honest, printers, pool, chip, loss, serial: 0, made: 0, together_before: (false, false), counts, tally };
     for who in 0..2 {
         let list = if world.random.percent(60) { groups } else { *world.random.pick(&LISTS) };
         world.set_up(who, list)?;
@@ -167,12 +206,12 @@ impl World<'_> {
         let old = self.printers[who].together.table().to_vec();
         let refuse = !old.is_empty() && self.random.percent(20);
         let own = if refuse { [0; 6] } else { self.printers[who].own };
-        self.printers[who].together.set(&buffer, Known::Nothing);
+        self.printers[who].set(&buffer, Known::Nothing);
         self.tally.set_ups += u64::from(!old.is_empty());
         self.call(who, Call::Initialize { own, settings })?;
         if refuse {
             // "and a set up that is not refused makes its buffer the table"
-            self.printers[who].together.set(&old, Known::Sound);
+            self.printers[who].set(&old, Known::Sound);
         }
         Ok(())
     }
@@ -342,9 +381,23 @@ impl World<'_> {
         self.printers[who].groups().fresh_right(fresh)
     }
 
+    /// Makes a call and keeps it for a trace.
+    fn make(&mut self, who: usize, call: &Call) -> Result<(u32, Lent), Fault> {
+        self.made += 1;
+        self.printers[who].steps.push(Step::Made(self.made, call.clone()));
+        self.printers[who].together.call(call, self.counts)
+    }
+
+    /// A breach of demand 3 after a call, with the calls that lead to it: one printer's, then the other's.
+    fn breach(&self, call: &Call, what: String) -> Fault {
+        let calls = self.printers.each_ref().map(Printer::trace).concat();
+        let told = format!("{what}\n  after call {} of the list: {}", self.made, shorten(&call_line(call)));
+        Fault { what: told, trace: format!("# demand 3, after call {} of the list: {what}\n{calls}", self.made) }
+    }
+
     /// Makes a call, takes in its answer, sends its frames and checks demand 3.
     fn call(&mut self, who: usize, call: Call) -> Result<(), Fault> {
-        let (number, lent) = self.printers[who].together.call(&call, self.counts)?;
+        let (number, lent) = self.make(who, &call)?;
         self.tally.calls += 1;
         if number != 0 {
             self.tally.refused += 1;
@@ -356,7 +409,7 @@ impl World<'_> {
         let answer = Answer::read(&lent.answer);
         let groups = self.printers[who].groups();
         let before = self.printers[who].history.peers.get(&answer.address).and_then(|peer| peer.last_pair);
-        self.printers[who].history.take(&call, &answer, &groups).map_err(|what| breach(&call, what))?;
+        self.printers[who].history.take(&call, &answer, &groups).map_err(|what| self.breach(&call, what))?;
         let after = self.printers[who].history.peers.get(&answer.address);
         self.tally.pairs += u64::from(after.and_then(|peer| peer.last_pair) != before);
         if let Some(run) = after.and_then(|peer| peer.run) {
@@ -376,7 +429,7 @@ impl World<'_> {
         for sent in &answer.frames {
             self.send(who, &call, &answer, sent)?;
         }
-        self.check(who).map_err(|what| breach(&call, what))
+        self.check(who).map_err(|what| self.breach(&call, what))
     }
 
     /// "The frames in an answer are sent to its address as the writer makes them from the table just left."
@@ -399,14 +452,14 @@ impl World<'_> {
                 Call::WriteParts { sequence, status, group: sent.group, counter: 0, token: expected, rest: Vec::new(), room }
             }
         };
-        let (number, lent) = self.printers[who].together.call(&write, self.counts)?;
+        let (number, lent) = self.make(who, &write)?;
         if number != 0 {
-            return Err(breach(call, format!("the writer refused {number} a frame of the answer: {sent:?}")));
+            return Err(self.breach(call, format!("the writer refused {number} a frame of the answer: {sent:?}")));
         }
         let octets = lent.out[..lent.written as usize].to_vec();
         let groups = Groups { count: 2, list: [19, 20] };
         if !says(frame::read(&octets, &groups), sent) {
-            return Err(breach(call, format!("what was written is not the frame of the answer: {sent:?}")));
+            return Err(self.breach(call, format!("what was written is not the frame of the answer: {sent:?}")));
         }
         self.tally.frames += 1;
         if address == self.printers[1 - who].own {
@@ -479,8 +532,4 @@ fn says(body: Option<Body>, sent: &Sent) -> bool {
         Some(Body::Confirm { counter }) => (sent.sequence, sent.status, sent.group, sent.counter) == (2, 0, 0, counter),
         _ => false,
     }
-}
-
-fn breach(call: &Call, what: String) -> Fault {
-    Fault { what: format!("{what}\n  after {}", crate::trace::shorten(&crate::trace::call_line(call))), trace: String::new() }
 }

@@ -2,11 +2,13 @@ use std::path::{Path, PathBuf};
 use std::process::ExitCode;
 use std::str::FromStr;
 
-use conformance::{agreement, benchmark, differential, replay};
+use conformance::{agreement, benchmark, delay, differential, replay};
 
 const USAGE: &str = "usage: conformance replay [TRACE…]
        conformance differential [CALLS [SEED]]
        conformance agreement [CALLS [SEED]]
+       conformance delay [there=MS] [back=MS] [starts=a|b|both] [later=MS] [chip=MS] [answer=MS] [password=same|other]
+       conformance delay sweep [MOST]
        conformance benchmark";
 
 /// Calls that the differential and demand 3's lists make unless told otherwise.
@@ -19,6 +21,7 @@ fn main() -> ExitCode {
         Some((what, files)) if what == "replay" => traces(files).and_then(|files| replay::run(&files)),
         Some((what, rest)) if what == "differential" => numbers(rest).and_then(|(calls, seed)| differential::run(calls, seed)),
         Some((what, rest)) if what == "agreement" => numbers(rest).and_then(|(calls, seed)| agreement::run(calls, seed)),
+        Some((what, rest)) if what == "delay" => delay::run(rest),
         Some((what, [])) if what == "benchmark" => benchmark::run(),
         _ => Err(USAGE.into()),
     };

@@ -7,8 +7,13 @@ use crate::interface::{engines, Counts, Engine, Lent};
 use crate::report::difference;
 use crate::trace::{array, number, poke, read_call, read_expected, shorten};
 
-/// Replays the files. Answers whether there was no difference.
+/// Replays the files. Answers whether there was no difference. A file that is not there is none: nothing is replayed then.
 pub fn run(files: &[PathBuf]) -> Result<bool, String> {
+    let missing: Vec<_> =
+        files.iter().filter(|file| !file.is_file()).map(|file| format!("no such trace file: {}", file.display())).collect();
+    if !missing.is_empty() {
+        return Err(missing.join("\n"));
+    }
     let mut same = true;
     let mut totals: Vec<Counts> = engines().iter().map(|_| Counts::default()).collect();
     for file in files {

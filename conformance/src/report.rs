@@ -19,6 +19,9 @@ pub fn difference(got: Outcome, wanted: Outcome) -> Option<String> {
     if got.1.written != wanted.1.written {
         told.push(format!("  length written {}, wanted {}", got.1.written, wanted.1.written));
     }
+    if got.1.number != wanted.1.number {
+        told.push(format!("  number {}, wanted {}", got.1.number, wanted.1.number));
+    }
     told.extend(octets("answer", &got.1.answer, &wanted.1.answer));
     told.extend(octets("parts", &got.1.parts, &wanted.1.parts));
     told.extend(octets("out buffer", &got.1.out, &wanted.1.out));

@@ -124,17 +124,18 @@ impl Together {
             return Some(format!("  returned {number} for a table that is not of its form"));
         }
         if number == 0 {
-            let untouched = match call {
+            let mut allowed = before.clone();
+            match call {
                 Call::WriteParts { .. } | Call::WriteRecord { .. } => {
-                    let written = after.written as usize;
-                    written <= after.out.len()
-                        && before.out[written..] == after.out[written..]
-                        && (before.answer, before.parts) == (after.answer, after.parts)
+                    let written = (after.written as usize).min(allowed.out.len());
+                    allowed.written = written as u32;
+                    allowed.out[..written].copy_from_slice(&after.out[..written]);
                 }
-                Call::Read { .. } => (before.answer, before.written, &before.out) == (after.answer, after.written, &after.out),
-                _ => (before.parts, before.written, &before.out) == (after.parts, after.written, &after.out),
-            };
-            if !untouched {
+                Call::Read { .. } => allowed.parts = after.parts,
+                Call::NextDeadline { .. } | Call::Find { .. } => allowed.number = after.number,
+                _ => allowed.answer = after.answer,
+            }
+            if allowed != *after {
                 return Some("  an octet was written that is not of the answer".into());
             }
         }

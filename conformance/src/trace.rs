@@ -39,6 +39,8 @@ pub fn read_call(words: &[&str]) -> Result<Call, String> {
             Call::WriteRecord { address: array(address)?, sequence: number(sequence)?, value: octets(value)?, room: number(room)? }
         }
         ["read", frame] => Call::Read { frame: octets(frame)? },
+        ["next_deadline", now] => Call::NextDeadline { now: number(now)? },
+        ["find", address] => Call::Find { address: array(address)? },
         _ => return Err(format!("not an op of this format: {}", shorten(&words.join(" ")))),
     })
 }
@@ -58,6 +60,8 @@ pub fn call_line(call: &Call) -> String {
         }
         Call::WriteRecord { address, sequence, value, room } => format!("write_record {} {sequence} {} {room}", hex(address), hex(value)),
         Call::Read { frame } => format!("read {}", hex(frame)),
+        Call::NextDeadline { now } => format!("next_deadline {now}"),
+        Call::Find { address } => format!("find {}", hex(address)),
     }
 }
 
@@ -74,6 +78,10 @@ pub fn read_expected(call: &Call, table: &[u8], returns: &str, changes: Option<&
         }
         ([">", "0", parts], Call::Read { .. }) => {
             lent.parts = array(parts)?;
+            0
+        }
+        ([">", "0", told], Call::NextDeadline { .. } | Call::Find { .. }) => {
+            lent.number = number(told)?;
             0
         }
         ([">", "0", answer], call) if call.may_change() => {
@@ -103,6 +111,7 @@ pub fn expected_lines(call: &Call, before: &[u8], number: u32, lent: &Lent, afte
         _ if number != 0 => format!("> {number} -"),
         Call::WriteParts { .. } | Call::WriteRecord { .. } => format!("> 0 {} {}", lent.written, hex(&lent.out)),
         Call::Read { .. } => format!("> 0 {}", hex(&lent.parts)),
+        Call::NextDeadline { .. } | Call::Find { .. } => format!("> 0 {}", lent.number),
         _ => format!("> 0 {}", hex(&lent.answer)),
     };
     let mut changes = String::new();

@@ -1,10 +1,10 @@
-//! The calls: refusals in the order of the paper's table, then the rule, then the record's place and the counts.
+//! The calls: refusals in the order of the scope's table, then the rule, then the record's place and the counts.
 
 use super::frame::{self, Body, Parts, COMMIT, CONFIRM, SUCCESS, VALUE};
 use super::octets::{individual, pack, usable, Address};
-use super::peer::{Peer, State};
+use super::peer::{Peer, State, RECORD};
 use super::rules::{self, Record, Step, Turn, LINK_COUNTER};
-use super::table::{self, peer_at, slots, Header, Settings, Standing};
+use super::table::{self, peer_at, slots, Header, Settings, Standing, HEADER};
 
 /// "Causes and numbers, in order of test."
 #[derive(Clone, Copy, Debug, PartialEq)]
@@ -114,16 +114,16 @@ pub fn expire(table: &mut [u8], now: u32) -> Result<Answer, Refusal> {
 }
 
 /// The writer, from a frame's parts: 2, 7, 11.
-pub fn write_parts(table: &[u8], parts: &Parts, out: &mut [u8]) -> Result<usize, Refusal> {
+pub fn write_parts(table: &[u8], parts: &Parts, out: &mut [u8]) -> Result<u32, Refusal> {
     let header = table::sound(table).ok_or(Refusal::Table)?;
     if !parts.right(&header.groups) {
         return Err(Refusal::Body);
     }
-    parts.write(out).ok_or(Refusal::Buffer)
+    parts.write(out).map(|length| length as u32).ok_or(Refusal::Buffer)
 }
 
 /// The writer, from an address and which of its record's frames is wanted: 2, 3, 7, 11.
-pub fn write_record(table: &[u8], address: &Address, sequence: u16, value: &[u8], out: &mut [u8]) -> Result<usize, Refusal> {
+pub fn write_record(table: &[u8], address: &Address, sequence: u16, value: &[u8], out: &mut [u8]) -> Result<u32, Refusal> {
     admit(table, address)?;
     let slot = table::find(table, pack(address)).ok_or(Refusal::Body)?;
     let peer = Peer(&slots(table)[slot]);
@@ -139,13 +139,28 @@ pub fn write_record(table: &[u8], address: &Address, sequence: u16, value: &[u8]
         }
         _ => return Err(Refusal::Body),
     };
-    parts.write(out).ok_or(Refusal::Buffer)
+    parts.write(out).map(|length| length as u32).ok_or(Refusal::Buffer)
 }
 
 /// The reader: 2, 7.
 pub fn read<'a>(table: &[u8], frame: &'a [u8]) -> Result<Body<'a>, Refusal> {
     let header = table::sound(table).ok_or(Refusal::Table)?;
     frame::read(frame, &header.groups).ok_or(Refusal::Body)
+}
+
+/// The time until the earliest deadline, t0 of a record with a run or t1 of one with a link: 0 if one is due, all ones if there is none: 2.
+pub fn next_deadline(table: &[u8], now: u32) -> Result<u32, Refusal> {
+    table::sound(table).ok_or(Refusal::Table)?;
+    let t0s = slots(table).iter().map(Peer).filter(|peer| peer.has_run()).map(|peer| peer.t0());
+    let t1s = slots(table).iter().map(Peer).filter(|peer| peer.has_link()).map(|peer| peer.t1());
+    let until = |deadline: u32| if rules::due(now, deadline) { 0 } else { deadline.wrapping_sub(now) };
+    Ok(t0s.chain(t1s).map(until).min().unwrap_or(u32::MAX))
+}
+
+/// Where the record of an address lies, 0 if it has none: 2, 3.
+pub fn find(table: &[u8], address: &Address) -> Result<u32, Refusal> {
+    admit(table, address)?;
+    Ok(table::find(table, pack(address)).map_or(0, |slot| (HEADER + RECORD * slot) as u32))
 }
 
 /// The first two causes of a call about an address: 2, 3.

@@ -1,4 +1,4 @@
-//! An engine for paper 01 in plain Rust, written from the paper: what the archive is compared with and measured against.
+//! An engine for the scope in plain Rust, written from it: what the archive is compared with and measured against.
 //! It works on the lent octets where they stand.
 
 pub mod engine;
@@ -64,11 +64,11 @@ impl Engine for Plain {
         written: &mut u32,
     ) -> u32 {
         let parts = Parts { sequence, status, group, counter, token, rest };
-        tell_length(engine::write_parts(table, &parts, out), written)
+        tell_number(engine::write_parts(table, &parts, out), written)
     }
 
     fn write_record(&self, table: &[u8], address: &Address, sequence: u16, value: &[u8], out: &mut [u8], written: &mut u32) -> u32 {
-        tell_length(engine::write_record(table, address, sequence, value, out), written)
+        tell_number(engine::write_record(table, address, sequence, value, out), written)
     }
 
     fn read(&self, table: &[u8], frame: &[u8], parts: &mut [u8; PARTS]) -> u32 {
@@ -79,6 +79,14 @@ impl Engine for Plain {
             }
             Err(refusal) => refusal as u32,
         }
+    }
+
+    fn next_deadline(&self, table: &[u8], now: u32, milliseconds: &mut u32) -> u32 {
+        tell_number(engine::next_deadline(table, now), milliseconds)
+    }
+
+    fn find(&self, table: &[u8], address: &Address, offset: &mut u32) -> u32 {
+        tell_number(engine::find(table, address), offset)
     }
 }
 
@@ -93,10 +101,10 @@ fn tell(result: Result<Answer, Refusal>, answer: &mut [u8; ANSWER]) -> u32 {
     }
 }
 
-fn tell_length(result: Result<usize, Refusal>, written: &mut u32) -> u32 {
+fn tell_number(result: Result<u32, Refusal>, number: &mut u32) -> u32 {
     match result {
-        Ok(length) => {
-            *written = length as u32;
+        Ok(said) => {
+            *number = said;
             0
         }
         Err(refusal) => refusal as u32,

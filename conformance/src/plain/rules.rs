@@ -1,4 +1,4 @@
-//! The rules: one function for each named act, then one for each state and message, in the paper's order.
+//! The rules: one function for each named act, then one for each state and message, in the scope's order.
 
 use super::engine::Refusal;
 use super::frame::{Body, COMMIT, CONFIRM, GROUP_REFUSED, SUCCESS, TOKEN_REQUIRED};

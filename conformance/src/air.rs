@@ -1,0 +1,375 @@
+//! Two ends and an air in which every frame takes its time and none is lost. Nothing is at random.
+
+use crate::history::{Answer, Link, Pair};
+use crate::interface::{Call, Counts, Lent};
+use crate::mesh::Mesh;
+use crate::plain::frame::{self, Body, COMMIT as COMMIT_FRAME, CONFIRM, SUCCESS, TOKEN_REQUIRED, VALUE};
+use crate::plain::octets::Address;
+use crate::plain::peer::{at, Peer, State, RECORD};
+use crate::plain::table::{self, Settings, COMMIT, HEADER};
+use crate::together::{Fault, Known, Together};
+
+/// The addresses of A and B.
+pub const ADDRESSES: [Address; 2] = [[2, 0, 0, 0, 0, 0x0a], [2, 0, 0, 0, 0, 0x0b]];
+pub const NAMES: [char; 2] = ['A', 'B'];
+
+/// When a play that has not come to rest is left, in milliseconds.
+pub const LAST: u64 = 120_000;
+
+/// Whose peer an end is.
+#[derive(Clone, Copy, PartialEq)]
+pub enum Maker {
+    Ours,
+    /// The model in mesh.rs.
+    Mesh,
+}
+
+/// What is played. The first of each two is A's, the second B's.
+#[derive(Clone, Copy)]
+pub struct Plan {
+    /// Milliseconds that a frame takes which this end sends.
+    pub takes: [u64; 2],
+    /// Milliseconds that this end's chip takes for a frame received whose verdict is looked at. Frames wait for it one behind the
+    /// other; the clock is served meanwhile.
+    pub chip: [u64; 2],
+    /// When it starts, if it does and has not heard from the other by then.
+    pub starts: [Option<u64>; 2],
+    pub makers: [Maker; 2],
+    /// Whether both have the same password. If not, no Confirm is right.
+    pub same_password: bool,
+}
+
+impl Plan {
+    /// Two of ours with this delay each way, no time at the chip, and A starting at 0 ms.
+    pub fn ours(delay: u64) -> Plan {
+        Plan { takes: [delay; 2], chip: [0; 2], starts: [Some(0), None], makers: [Maker::Ours; 2], same_password: true }
+    }
+}
+
+/// What an end does at a turn.
+#[derive(Default)]
+pub struct Turn {
+    /// The event, 0 if none. The model's are those that an engine of ours would tell.
+    pub event: u8,
+    /// The bodies of the frames that it sends, in order.
+    pub frames: Vec<Vec<u8>>,
+}
+
+/// One end.
+pub trait End {
+    fn start(&mut self, now: u64) -> Result<Turn, Fault>;
+    fn receive(&mut self, now: u64, frame: &[u8]) -> Result<Turn, Fault>;
+    fn expire(&mut self, now: u64) -> Result<Turn, Fault>;
+    /// Whether the chip is asked about a frame, received now.
+    fn asks_chip(&self, frame: &[u8]) -> bool;
+    /// When its run is tried again, if it has one.
+    fn deadline(&self) -> Option<u64>;
+    fn link(&self) -> Option<Link>;
+}
+
+/// What a play came to.
+pub struct Outcome {
+    /// The events at each end, with their times.
+    pub events: [Vec<(u64, u8)>; 2],
+    /// The links at the end.
+    pub links: [Option<Link>; 2],
+    /// Whether it came to rest: no frame in the air, no run.
+    pub rests: bool,
+}
+
+/// Plays until nothing is left to wait for. What falls in the same millisecond: starts first, then frames in the order in which they
+/// were sent, then A's clock, then B's.
+pub fn play(plan: &Plan, tell: bool) -> Result<Outcome, Fault> {
+    let ends = [0, 1].map(|who| -> Box<dyn End> {
+        let password = if plan.same_password { 0 } else { who as u8 };
+        match plan.makers[who] {
+            Maker::Ours => Box::new(Ours::new(ADDRESSES[who], ADDRESSES[1 - who], password)),
+            Maker::Mesh => Box::new(Mesh::new(ADDRESSES[who], password)),
+        }
+    });
+    let starts = plan.starts;
+    let mut air = Air { plan, tell, ends, starts, flights: Vec::new(), asked: [None; 2], events: [Vec::new(), Vec::new()] };
+    while let Some((now, next)) = air.next() {
+        if now > LAST {
+            break;
+        }
+        match next {
+            Next::Start(who) => air.start(now, who)?,
+            Next::Frame(place) => air.deliver(now, place)?,
+            Next::Clock(who) => {
+                air.say(now, who, || "t0 is due".into());
+                let turn = air.ends[who].expire(now)?;
+                air.take(now, who, turn);
+            }
+        }
+    }
+    let links = [air.ends[0].link(), air.ends[1].link()];
+    Ok(Outcome { rests: air.next().is_none(), events: air.events, links })
+}
+
+/// What comes next: a start, something about the frame at this place among those on their way, or a deadline.
+enum Next {
+    Start(usize),
+    Frame(usize),
+    Clock(usize),
+}
+
+/// A frame on its way.
+struct Flight {
+    to: usize,
+    sent: u64,
+    arrives: u64,
+    octets: Vec<u8>,
+}
+
+struct Air<'a> {
+    plan: &'a Plan,
+    tell: bool,
+    ends: [Box<dyn End>; 2],
+    /// The starts that are still to come.
+    starts: [Option<u64>; 2],
+    /// In the order in which they were sent.
+    flights: Vec<Flight>,
+    /// When the chip of each end answers, if it has been asked about the first frame that arrived there.
+    asked: [Option<u64>; 2],
+    events: [Vec<(u64, u8)>; 2],
+}
+
+impl Air<'_> {
+    /// The earliest of all that is to come. What is named first here comes first in its millisecond.
+    fn next(&self) -> Option<(u64, Next)> {
+        let start = (0..2).filter_map(|who| Some((self.starts[who]?, Next::Start(who))));
+        let frame = (0..2).filter_map(|who| self.first(who)).min_by_key(|&(at, place)| (at, self.flights[place].sent));
+        let clock = (0..2).filter_map(|who| Some((self.ends[who].deadline()?, Next::Clock(who))));
+        start.chain(frame.map(|(at, place)| (at, Next::Frame(place)))).chain(clock).min_by_key(|(at, _)| *at)
+    }
+
+    /// An end starts, unless it has heard from the other.
+    fn start(&mut self, now: u64, who: usize) -> Result<(), Fault> {
+        self.starts[who] = None;
+        if self.ends[who].deadline().is_none() && self.ends[who].link().is_none() {
+            self.say(now, who, || "starts".into());
+            let turn = self.ends[who].start(now)?;
+            self.take(now, who, turn);
+        }
+        Ok(())
+    }
+
+    /// When something is done about the first frame on its way to an end, and its place.
+    fn first(&self, who: usize) -> Option<(u64, usize)> {
+        let place = self.flights.iter().position(|flight| flight.to == who)?;
+        Some((self.asked[who].unwrap_or(self.flights[place].arrives), place))
+    }
+
+    /// Asks the chip about a frame, or, if nothing is left to ask, makes the call.
+    fn deliver(&mut self, now: u64, place: usize) -> Result<(), Fault> {
+        let (who, chip) = (self.flights[place].to, self.plan.chip[self.flights[place].to]);
+        if self.asked[who].is_none() && chip > 0 && self.ends[who].asks_chip(&self.flights[place].octets) {
+            self.asked[who] = Some(now + chip);
+            return Ok(());
+        }
+        self.asked[who] = None;
+        let octets = self.flights.remove(place).octets;
+        // The next frame, if it is there already, has waited until now.
+        if let Some(next) = self.flights.iter_mut().find(|flight| flight.to == who) {
+            next.arrives = next.arrives.max(now);
+        }
+        self.say(now, who, || format!("gets {}", words(&octets)));
+        let turn = self.ends[who].receive(now, &octets)?;
+        self.take(now, who, turn);
+        Ok(())
+    }
+
+    /// Takes in what an end did.
+    fn take(&mut self, now: u64, who: usize, turn: Turn) {
+        if turn.event != 0 {
+            self.say(now, who, || format!("event {}, {}", turn.event, EVENTS[usize::from(turn.event)]));
+            self.events[who].push((now, turn.event));
+        }
+        for octets in turn.frames {
+            self.say(now, who, || format!("sends {}", words(&octets)));
+            self.flights.push(Flight { to: 1 - who, sent: now, arrives: now + self.plan.takes[who], octets });
+        }
+    }
+
+    fn say(&self, now: u64, who: usize, what: impl FnOnce() -> String) {
+        if self.tell {
+            println!("{now:>7} ms  {}  {}", NAMES[who], what());
+        }
+    }
+}
+
+/// The events in words.
+pub const EVENTS: [&str; 4] = ["none", "accepted", "run given up", "link ended"];
+
+/// A frame in words.
+fn words(octets: &[u8]) -> String {
+    match frame::read(octets, &Settings::factory().groups) {
+        Some(Body::Commit { group, .. }) => format!("Commit, group {group}"),
+        Some(Body::Confirm { counter }) => format!("Confirm, counter {counter}"),
+        Some(Body::TokenRequest { group, .. }) => format!("76, group {group}"),
+        Some(Body::GroupRefusal { group }) => format!("77, group {group}"),
+        _ => "a frame of another kind".into(),
+    }
+}
+
+/// The chip's stand-in. It is no cryptography: octets that differ where they must.
+pub mod chip {
+    use super::*;
+
+    fn mix(sum: u64, with: u8) -> u64 {
+        let sum = (sum ^ u64::from(with)).wrapping_mul(0x9e37_79b9_7f4a_7c15);
+        sum ^ sum >> 29
+    }
+
+    fn fill(octets: &mut [u8], seed: u64) {
+        let mut sum = seed;
+        for octet in octets {
+            sum = mix(sum, 0);
+            *octet = (sum >> 32) as u8;
+        }
+    }
+
+    /// Fresh commits for the groups 19 and 20, unlike all of another address or another number.
+    pub fn fresh(address: &Address, number: u32) -> [u8; 2 * COMMIT] {
+        let seed = address.iter().chain(&number.to_le_bytes()).fold(0, |sum, &octet| mix(sum, octet));
+        let mut fresh = [0; 2 * COMMIT];
+        fill(&mut fresh[..frame::commit_len(19)], seed);
+        fill(&mut fresh[COMMIT..], mix(seed, 20));
+        fresh
+    }
+
+    /// The value of a Confirm that the owner of this pair makes, with this counter.
+    pub fn value(password: u8, pair: &Pair, counter: u16) -> [u8; VALUE] {
+        let front = [&[password][..], &pair.group.to_le_bytes(), &counter.to_le_bytes()].concat();
+        let seed = front.iter().chain(&pair.own).chain(&pair.peer).fold(0, |sum, &octet| mix(sum, octet));
+        let mut value = [0; VALUE];
+        fill(&mut value, seed);
+        value
+    }
+
+    /// Whether a Confirm from the other end is right for this end's pair.
+    pub fn right(password: u8, pair: &Pair, counter: u16, received: &[u8]) -> bool {
+        received == value(password, &pair.exchanged(), counter)
+    }
+}
+
+/// An end with the engine: every engine there is makes each call, and they are compared.
+struct Ours {
+    own: Address,
+    other: Address,
+    password: u8,
+    together: Together,
+    counts: Counts,
+    /// Fresh commits used so far.
+    used: u32,
+}
+
+impl Ours {
+    /// A table of one slot, set up with the factory settings.
+    fn new(own: Address, other: Address, password: u8) -> Ours {
+        let together = Together::new(&[0; HEADER + RECORD], Known::Nothing);
+        let mut ours = Ours { own, other, password, together, counts: Counts::default(), used: 0 };
+        let settings = Settings::factory().octets();
+        assert!(ours.call(&Call::Initialize { own, settings }).is_ok(), "the settings are right");
+        ours
+    }
+
+    fn peer(&self) -> Option<Peer<&[u8; RECORD]>> {
+        table::slots(self.together.table()).iter().map(Peer).find(|peer| peer.in_use())
+    }
+
+    /// The pair that a Confirm meets or is made over: the run's in Confirmed, the link's without a run.
+    fn pair(&self) -> Option<Pair> {
+        let peer = self.peer()?;
+        let commit = |at: usize| *peer.0[at..].first_chunk().expect("a commit");
+        match peer.state() {
+            State::Committed => None,
+            State::Confirmed => Some(Pair { group: peer.group(), own: commit(at::OWN), peer: commit(at::PEER) }),
+            State::Nothing => Some(Pair { group: peer.link_group(), own: commit(at::LINK_OWN), peer: commit(at::LINK_PEER) }),
+        }
+    }
+
+    /// Makes a call that is not to be refused, and writes the frames of its answer.
+    fn call(&mut self, call: &Call) -> Result<Turn, Fault> {
+        let answer = Answer::read(&self.done(call)?.answer);
+        self.used += u32::from(answer.fresh_group != 0);
+        let mut frames = Vec::new();
+        for sent in &answer.frames {
+            let (address, sequence, room) = (answer.address, sent.sequence, 408);
+            let write = match (sent.sequence, sent.status) {
+                (COMMIT_FRAME, SUCCESS) => Call::WriteRecord { address, sequence, value: Vec::new(), room },
+                (CONFIRM, _) => {
+                    let pair = self.pair().expect("a Confirm is made over a pair");
+                    Call::WriteRecord { address, sequence, value: chip::value(self.password, &pair, sent.counter).to_vec(), room }
+                }
+                (_, status) => {
+                    let token = if status == TOKEN_REQUIRED { TOKEN.to_vec() } else { Vec::new() };
+                    Call::WriteParts { sequence, status, group: sent.group, counter: 0, token, rest: Vec::new(), room }
+                }
+            };
+            let lent = self.done(&write)?;
+            frames.push(lent.out[..lent.written as usize].to_vec());
+        }
+        Ok(Turn { event: answer.event, frames })
+    }
+
+    fn done(&mut self, call: &Call) -> Result<Lent, Fault> {
+        match self.together.call(call, &mut self.counts)? {
+            (0, lent) => Ok(lent),
+            (number, _) => Err(Fault { what: format!("refused {number}: {call:?}"), trace: String::new() }),
+        }
+    }
+}
+
+/// The token that is expected from anyone.
+const TOKEN: [u8; 32] = [7; 32];
+
+impl End for Ours {
+    fn start(&mut self, now: u64) -> Result<Turn, Fault> {
+        let fresh = chip::fresh(&self.own, self.used).to_vec();
+        self.call(&Call::Initiate { address: self.other, now: now as u32, fresh })
+    }
+
+    fn receive(&mut self, now: u64, frame: &[u8]) -> Result<Turn, Fault> {
+        let verified = match frame::read(frame, &Settings::factory().groups) {
+            Some(Body::Commit { .. }) => true,
+            Some(Body::Confirm { counter }) => {
+                self.pair().is_some_and(|pair| chip::right(self.password, &pair, counter, &frame[frame::FRONT..]))
+            }
+            _ => false,
+        };
+        self.call(&Call::Receive {
+            address: self.other,
+            now: now as u32,
+            frame: frame.to_vec(),
+            fresh: chip::fresh(&self.own, self.used).to_vec(),
+            expected: TOKEN.to_vec(),
+            verified: u8::from(verified),
+        })
+    }
+
+    fn expire(&mut self, now: u64) -> Result<Turn, Fault> {
+        self.call(&Call::Expire { now: now as u32 })
+    }
+
+    /// All but a Confirm in Committed or with neither run nor link, and a Commit in Confirmed: the engine looks at no verdict on those.
+    fn asks_chip(&self, frame: &[u8]) -> bool {
+        let confirmed = self.peer().is_some_and(|peer| peer.state() == State::Confirmed);
+        match frame::read(frame, &Settings::factory().groups) {
+            Some(Body::Commit { .. }) => !confirmed,
+            Some(Body::Confirm { .. }) => self.pair().is_some(),
+            _ => false,
+        }
+    }
+
+    fn deadline(&self) -> Option<u64> {
+        self.peer().filter(|peer| peer.has_run()).map(|peer| u64::from(peer.t0()))
+    }
+
+    fn link(&self) -> Option<Link> {
+        let peer = self.peer().filter(|peer| peer.has_link())?;
+        let pair = Pair { group: peer.link_group(), own: *peer.link_own(), peer: *peer.link_peer() };
+        Some(Link { pair, marked: peer.superseded() })
+    }
+}

@@ -1,0 +1,203 @@
+//! What becomes of a handshake when frames take long and none is lost: one play in full, or the outcome against delay.
+
+use crate::air::{play, Maker, Outcome, Plan, EVENTS, LAST, NAMES};
+use crate::differential::keep;
+use crate::interface::engines;
+use crate::together::Fault;
+use crate::trace::number;
+
+/// The largest value of a sweep unless told otherwise, in milliseconds.
+const MOST: u64 = 3000;
+
+/// `sweep [MOST]`, or what is played, as words `name=value`.
+pub fn run(words: &[String]) -> Result<bool, String> {
+    let words: Vec<&str> = words.iter().map(String::as_str).collect();
+    let names: Vec<_> = engines().iter().map(|engine| engine.name()).collect();
+    println!("delay: every frame arrives, late; engines: {}", names.join(", "));
+    let played = match words[..] {
+        ["sweep"] => sweep(MOST),
+        ["sweep", most] => sweep(number(most)?),
+        _ => one(&plan(&words)?),
+    };
+    match played {
+        Ok(()) => Ok(true),
+        Err(fault) => {
+            println!("{}", fault.what);
+            keep(&fault);
+            Ok(false)
+        }
+    }
+}
+
+/// What the words say is played: two of ours, A starting and no delay, unless they say otherwise.
+fn plan(words: &[&str]) -> Result<Plan, String> {
+    let mut plan = Plan::ours(0);
+    let (mut back, mut answer, mut later) = (None, None, 0);
+    for word in words {
+        match word.split_once('=') {
+            Some(("there", ms)) => plan.takes[0] = number(ms)?,
+            Some(("back", ms)) => back = Some(number(ms)?),
+            Some(("chip", ms)) => plan.chip = [number(ms)?; 2],
+            Some(("starts", "a")) => plan.starts = [Some(0), None],
+            Some(("starts", "b")) => plan.starts = [None, Some(0)],
+            Some(("starts", "both")) => plan.starts = BOTH,
+            Some(("later", ms)) => later = number(ms)?,
+            Some(("answer", ms)) => answer = Some(number(ms)?),
+            Some(("password", "same")) => plan.same_password = true,
+            Some(("password", "other")) => plan.same_password = false,
+            _ => return Err(format!("not a word of this program: {word}")),
+        }
+    }
+    plan.takes[1] = back.unwrap_or(plan.takes[0]);
+    plan.starts[1] = plan.starts[1].map(|start| start + later);
+    // With an answer time B is the model of a mesh peer.
+    if let Some(ms) = answer {
+        (plan.makers, plan.chip[1]) = (WITH_MESH, ms);
+    }
+    Ok(plan)
+}
+
+/// Prints a play and what it came to.
+fn one(plan: &Plan) -> Result<(), Fault> {
+    let outcome = play(plan, true)?;
+    println!("{}:", Kind::of(&outcome).words());
+    for (who, name) in NAMES.iter().enumerate() {
+        let told = outcome.events[who].iter();
+        let events: Vec<String> = told.map(|(at, event)| format!("event {event} ({}) at {at} ms", EVENTS[usize::from(*event)])).collect();
+        let events = if events.is_empty() { "no event".into() } else { events.join(", ") };
+        let link = match outcome.links[who] {
+            Some(link) if link.marked => "a link, marked",
+            Some(_) => "a link, not marked",
+            None => "no link",
+        };
+        println!("  {name}: {events}; holds {link}");
+    }
+    match outcome.links {
+        [Some(a), Some(b)] if a.pair == b.pair.exchanged() => println!("  the same pair at both ends"),
+        [Some(_), Some(_)] => println!("  pairs that differ"),
+        _ => {}
+    }
+    Ok(())
+}
+
+/// What a play came to, in one word.
+#[derive(Clone, Copy, PartialEq)]
+enum Kind {
+    /// Both hold the same link, unmarked, and neither was told of an end.
+    Linked,
+    /// One holds a link at the end and the other none, or they differ.
+    Apart,
+    /// A link was finished, and neither holds one at the end.
+    Ended,
+    /// No link was ever finished.
+    GivenUp,
+    /// Runs begin anew from late frames for as long as it was played.
+    Restless,
+}
+
+impl Kind {
+    fn of(outcome: &Outcome) -> Kind {
+        let any = |event: u8| outcome.events.iter().flatten().any(|&(_, told)| told == event);
+        match outcome.links {
+            _ if !outcome.rests => Kind::Restless,
+            [Some(a), Some(b)] if a.pair == b.pair.exchanged() && !a.marked && !b.marked && !any(2) && !any(3) => Kind::Linked,
+            [None, None] if any(1) => Kind::Ended,
+            [None, None] => Kind::GivenUp,
+            _ => Kind::Apart,
+        }
+    }
+
+    fn words(self) -> &'static str {
+        match self {
+            Kind::Linked => "both linked",
+            Kind::Apart => "one end linked",
+            Kind::Ended => "linked, then not",
+            Kind::GivenUp => "given up",
+            Kind::Restless => "never at rest",
+        }
+    }
+}
+
+/// A row of plays that differ in one number of milliseconds.
+struct Series {
+    name: &'static str,
+    /// What the number is.
+    over: &'static str,
+    plan: fn(u64) -> Plan,
+}
+
+const WITH_MESH: [Maker; 2] = [Maker::Ours, Maker::Mesh];
+const BOTH: [Option<u64>; 2] = [Some(0); 2];
+
+const SERIES: [Series; 8] = [
+    Series { name: "one starts", over: "delay", plan: Plan::ours },
+    Series { name: "both start", over: "delay", plan: |ms| Plan { starts: BOTH, ..Plan::ours(ms) } },
+    Series { name: "one starts", over: "chip time", plan: |ms| Plan { chip: [ms; 2], ..Plan::ours(0) } },
+    Series { name: "both start", over: "chip time", plan: |ms| Plan { chip: [ms; 2], starts: BOTH, ..Plan::ours(0) } },
+    Series { name: "ours starts, a mesh peer answers", over: "answer time", plan: |ms| with_mesh([Some(0), None], ms) },
+    Series { name: "a mesh peer starts, ours answers", over: "answer time", plan: |ms| with_mesh([None, Some(0)], ms) },
+    Series { name: "one starts, other password", over: "delay", plan: |ms| Plan { same_password: false, ..Plan::ours(ms) } },
+    Series { name: "both start, other password", over: "delay", plan: |ms| Plan { same_password: false, starts: BOTH, ..Plan::ours(ms) } },
+];
+
+/// A is ours, B the model of a mesh peer that does what it does so long after a frame.
+fn with_mesh(starts: [Option<u64>; 2], answer: u64) -> Plan {
+    Plan { chip: [0, answer], starts, makers: WITH_MESH, ..Plan::ours(0) }
+}
+
+/// Prints the outcome against milliseconds, each from 0 to `most`, as a table.
+fn sweep(most: u64) -> Result<(), Fault> {
+    println!("every millisecond from 0 to {most}; a play is left after {} s", LAST / 1000);
+    println!("events are told in order; one that comes several times in a row, once");
+    println!("\n| Play | Over | From | To | Outcome | Events at A | at B | Links |\n|---|---|---:|---:|---|---|---|---|");
+    let mut limits = Vec::new();
+    for series in &SERIES {
+        let mut begun: Option<(u64, String)> = None;
+        let mut linked = Vec::new();
+        for ms in 0..=most {
+            let outcome = play(&(series.plan)(ms), false)?;
+            if Kind::of(&outcome) == Kind::Linked {
+                linked.push(ms);
+            }
+            let row = row(&outcome);
+            if let Some((from, before)) = begun.take_if(|(_, before)| *before != row) {
+                println!("| {} | {} | {from} | {} | {before} |", series.name, series.over, ms - 1);
+            }
+            begun.get_or_insert((ms, row));
+        }
+        let (from, row) = begun.expect("a first row");
+        println!("| {} | {} | {from} | {most} | {row} |", series.name, series.over);
+        limits.push(format!("  {}, {}: {}", series.name, series.over, limit(&linked, most)));
+    }
+    println!("\nwhere both are linked and stay so:\n{}", limits.join("\n"));
+    Ok(())
+}
+
+/// The outcome, the events at each end and who holds a link, as cells of a row.
+fn row(outcome: &Outcome) -> String {
+    let events = outcome.events.each_ref().map(|told| {
+        let mut events: Vec<String> = told.iter().map(|(_, event)| event.to_string()).collect();
+        events.dedup();
+        events.join(" ")
+    });
+    let links = match outcome.links {
+        [Some(a), Some(b)] if a.pair == b.pair.exchanged() => "both, the same",
+        [Some(_), Some(_)] => "both, unlike",
+        [Some(a), None] if a.marked => "A alone, marked",
+        [Some(_), None] => "A alone",
+        [None, Some(b)] if b.marked => "B alone, marked",
+        [None, Some(_)] => "B alone",
+        [None, None] => "none",
+    };
+    format!("{} | {} | {} | {links}", Kind::of(outcome).words(), events[0], events[1])
+}
+
+/// Where the values that link lie.
+fn limit(linked: &[u64], most: u64) -> String {
+    let (Some(first), Some(last)) = (linked.first(), linked.last()) else { return "nowhere".into() };
+    match (last - first + 1 == linked.len() as u64, *last == most) {
+        (true, true) => format!("from {first} to {last} ms, the end of the sweep"),
+        (true, false) => format!("from {first} to {last} ms, and nowhere from {} to {most} ms", last + 1),
+        (false, _) => format!("at {} values from {first} to {last} ms, with gaps", linked.len()),
+    }
+}
