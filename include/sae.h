@@ -5,9 +5,10 @@
  * same time; calls on different tables may.
  *
  * Every function returns 0, or the number of the refusal (enum sae_refusal). The causes of a call are tested in the order of their
- * numbers, and the first one that holds is returned. After a refusal every lent octet is as it was: table, answer, written, out and
- * parts. No argument makes a call undefined, but for the rules of C: a pointer is not null, also where its length is 0, and points to as
- * many octets as the length says; nothing that a call may write overlaps anything else that is lent to it.
+ * numbers, and the first one that holds is returned. After a refusal every lent octet is as it was: table, answer, written, out, parts,
+ * milliseconds and offset. No argument makes a call undefined, but for the rules of C: a pointer is not null, also where its length is 0
+ * (nothing is read there, but it may not be null), and points to as many octets as the length says; nothing that a call may write
+ * overlaps anything else that is lent to it (what has length 0 overlaps nothing). No alignment is asked of octets; `written`, `milliseconds` and `offset` are uint32_t.
  *
  * Fields of more than one octet are little-endian everywhere. Addresses are six octets, first octet first.
  */
@@ -21,6 +22,11 @@
 extern "C" {
 #endif
 
+/* The version of this interface. The first number rises when a host must be looked at again: a call's arguments, a layout or what a call
+ * does has changed. The second rises when calls or names were added. */
+#define SAE_VERSION_MAJOR 1
+#define SAE_VERSION_MINOR 1
+
 /* Lengths, in octets. */
 #define SAE_ADDRESS_LEN 6
 #define SAE_SETTINGS_LEN 16
@@ -31,6 +37,7 @@ extern "C" {
 #define SAE_COMMIT_LEN 144  /* a stored commit: scalar, element, zeros behind a shorter one */
 #define SAE_TOKEN_LEN 256   /* the longest token */
 #define SAE_FRAME_LEN 408   /* the longest frame body that the writers write */
+#define SAE_BODY_LEN 2304   /* the longest frame body that is read; the shortest has 6 */
 #define SAE_HEADER_LEN 32
 #define SAE_RECORD_LEN 864
 
@@ -46,12 +53,17 @@ extern "C" {
 #define SAE_GROUP_20 20
 
 /* Frames. */
-#define SAE_COMMIT 1          /* sequence */
-#define SAE_CONFIRM 2         /* sequence */
-#define SAE_TOKEN_REQUIRED 76 /* status of a Commit */
-#define SAE_GROUP_REFUSED 77  /* status of a Commit */
+#define SAE_COMMIT 1                /* sequence */
+#define SAE_CONFIRM 2               /* sequence */
+#define SAE_TOKEN_REQUIRED 76       /* status of a Commit */
+#define SAE_GROUP_REFUSED 77        /* status of a Commit */
+#define SAE_LINK_COUNTER 65535      /* the counter of a Confirm that a link answers with */
 
-/* Octet 1 of an answer. */
+/* Times, in milliseconds. */
+#define SAE_LINK_MS 86400000        /* a link lasts so long after it was accepted */
+#define SAE_NO_DEADLINE 0xffffffffu /* sae_next_deadline: the table has none */
+
+/* The event in an answer. */
 enum sae_event {
     SAE_EVENT_NONE = 0,
     SAE_EVENT_ACCEPTED = 1,  /* the run became the finished link with this address */
@@ -75,54 +87,91 @@ enum sae_refusal {
     SAE_REFUSED_BUFFER = 11    /* the frame is longer than the out buffer */
 };
 
-/* Settings, 16 octets:
- *    0      number of groups, 1 or 2
- *    1      0
- *    2-3    the most preferred group, 19 or 20
- *    4-5    the other one, or 0
- *    6-7    0
- *    8-9    token threshold, 0 to 64: with so many runs open, a Commit of a peer without a run must carry the expected token
- *    10-15  0
- * Factory settings are the groups 19 and 20 and the threshold 5. */
+/* Settings, 16 octets. Octets 1, 6-7 and 10-15 are 0. */
+#define SAE_SETTINGS_COUNT 0     /* 1 octet: number of groups, 1 or 2 */
+#define SAE_SETTINGS_GROUPS 2    /* 2 octets each: the most preferred group, 19 or 20, then the other one, or 0 if there is none */
+#define SAE_SETTINGS_THRESHOLD 8 /* 2 octets, 0 to 64: with so many runs open a Commit of a peer without one needs the expected token */
 
-/* Answer, 28 octets:
- *    0      1 if no deadline is due (sae_expire; all else is 0 then), else 0
- *    1      event (enum sae_event)
- *    2-3    the group whose fresh commit was used, or 0
- *    4-9    the address that the answer is about: frames go to it
- *    10     number of frames to send, 0 to 2, in this order:
- *    11     0
- *    12-19  the first frame: sequence, status, group, counter, 2 octets each; zeros if there is none
- *    20-27  the second frame
- * A Commit has counter 0 and a Confirm has group 0. sae_write_record writes a frame of status 0, sae_write_parts one of status 76 (its
- * token is the expected token of the call) or 77. Write the frames before the next call on this table. */
+/* Factory settings: as an initializer of the 16 octets, and number by number. Period and Sync limit cannot be set. */
+#define SAE_FACTORY_SETTINGS {2, 0, SAE_GROUP_19, 0, SAE_GROUP_20, 0, 0, 0, SAE_FACTORY_THRESHOLD, 0, 0, 0, 0, 0, 0, 0}
+#define SAE_FACTORY_THRESHOLD 5
+#define SAE_FACTORY_PERIOD 40    /* milliseconds: the first retry of a run comes after it, each further one after twice the time before */
+#define SAE_FACTORY_SYNC_LIMIT 5 /* a run whose Sync is above it is given up instead of repeated, and a Confirm then ends a link */
+
+/* Answer, 28 octets. Octet 11 is 0. */
+#define SAE_ANSWER_NONE_DUE 0              /* 1 octet: 1 if no deadline is due (sae_expire; all else is 0 then), else 0 */
+#define SAE_ANSWER_EVENT 1                 /* 1 octet (enum sae_event) */
+#define SAE_ANSWER_FRESH 2                 /* 2 octets: the group whose fresh commit was used, or 0 */
+#define SAE_ANSWER_ADDRESS 4               /* 6 octets: the address that the answer is about; frames go to it */
+#define SAE_ANSWER_COUNT 10                /* 1 octet: number of frames to send, 0 to 2, in the order of their places: */
+#define SAE_ANSWER_FRAME(i) (12 + 8 * (i)) /* 8 octets: frame i, from 0; zeros if there is none */
+
+/* A frame in an answer, from SAE_ANSWER_FRAME(i) on, 2 octets each. A Commit has counter 0 and a Confirm has group 0. sae_write_record
+ * writes a frame of status 0, sae_write_parts one of status 76 (its token is the expected token of the call) or 77. Write the frames
+ * before the next call on this table. */
+#define SAE_ENTRY_SEQUENCE 0
+#define SAE_ENTRY_STATUS 2
+#define SAE_ENTRY_GROUP 4
+#define SAE_ENTRY_COUNTER 6
+
+/* Parts, 20 octets: what sae_read finds in a body. What a body does not have is 0. */
+#define SAE_PARTS_SEQUENCE 0      /* 2 octets */
+#define SAE_PARTS_STATUS 2        /* 2 octets */
+#define SAE_PARTS_GROUP 4         /* 2 octets */
+#define SAE_PARTS_COUNTER 6       /* 2 octets */
+#define SAE_PARTS_TOKEN_AT 8      /* 4 octets: offset of the token, 8 in a Commit of a listed group also if the token is empty */
+#define SAE_PARTS_TOKEN_LENGTH 12 /* 4 octets */
+#define SAE_PARTS_REST_AT 16      /* 4 octets: offset of the scalar (the element follows it), or of a Confirm's value */
 
 /* Fresh commits, 144 octets for each listed group in the order of the list: scalar, element, zeros. Made by the chip and never used
- * before. If the answer names a group (octets 2-3), that one is used up; the others may be offered again. */
+ * before. If the answer names a group (SAE_ANSWER_FRESH), that one is used up and never offered again; the others may be. */
 
-/* Where things stand in record i, which starts at SAE_HEADER_LEN + SAE_RECORD_LEN * i. The host may look into the table between calls,
- * to hand the chip the pair of a run or a link; only the engine writes it. A free slot is all zeros. */
-#define SAE_RECORD_IN_USE 0      /* 1 octet, 0 or 1 */
-#define SAE_RECORD_ADDRESS 1     /* 6 octets */
-#define SAE_RECORD_STATE 7       /* 1 octet: no run 0, Committed 1, Confirmed 2 */
-#define SAE_RECORD_SYNC 8        /* 1 octet */
-#define SAE_RECORD_SC 10         /* 2 octets: the counter of the run's last Confirm */
-#define SAE_RECORD_GROUP 12      /* 2 octets: the run's group */
-#define SAE_RECORD_T0 16         /* 4 octets: the run's deadline */
-#define SAE_RECORD_OWN 20        /* a commit: the run's own */
-#define SAE_RECORD_PEER 164      /* a commit: the run's other one, from Confirmed on */
-#define SAE_RECORD_LINK 564      /* 1 octet: finished link, 0 or 1 */
-#define SAE_RECORD_SUPERSEDED 565 /* 1 octet: the link's mark, 1 if a pair was formed since */
-#define SAE_RECORD_LINK_SYNC 566 /* 1 octet */
-#define SAE_RECORD_LINK_GROUP 568 /* 2 octets */
-#define SAE_RECORD_RC 570        /* 2 octets: the counter last taken */
-#define SAE_RECORD_T1 572        /* 4 octets: the link's deadline */
-#define SAE_RECORD_LINK_OWN 576  /* a commit */
-#define SAE_RECORD_LINK_PEER 720 /* a commit */
+/* Where things stand in the header. The host may look into the table between calls; only the engine writes it. Octets 10-15, 23 and
+ * 30-31 are 0. */
+#define SAE_HEADER_SLOTS 0       /* 2 octets: records, free ones too */
+#define SAE_HEADER_USED 2        /* 2 octets: records in use */
+#define SAE_HEADER_OPEN 4        /* 2 octets: records with a run */
+#define SAE_HEADER_RECORD_SIZE 6 /* 2 octets: 864 */
+#define SAE_HEADER_FIRST 8       /* 2 octets: offset of the first record, 32 */
+#define SAE_HEADER_OWN 16        /* 6 octets: own address */
+#define SAE_HEADER_COUNT 22      /* 1 octet: number of groups */
+#define SAE_HEADER_GROUPS 24     /* 2 octets each, 0 past their number */
+#define SAE_HEADER_THRESHOLD 28  /* 2 octets */
+
+/* The state of a run. */
+enum sae_run_state {
+    SAE_RUN_NOTHING = 0, /* there is no run */
+    SAE_RUN_COMMITTED = 1,
+    SAE_RUN_CONFIRMED = 2
+};
+
+/* Where things stand in record i, which starts at SAE_RECORD_AT(i); sae_find says where an address's record starts. The host hands the
+ * chip the pair of a run or a link from here. A free slot is all zeros. */
+#define SAE_RECORD_AT(i) (SAE_HEADER_LEN + (size_t)SAE_RECORD_LEN * (i))
+#define SAE_RECORD_IN_USE 0         /* 1 octet, 0 or 1 */
+#define SAE_RECORD_ADDRESS 1        /* 6 octets */
+#define SAE_RECORD_STATE 7          /* 1 octet (enum sae_run_state) */
+#define SAE_RECORD_SYNC 8           /* 1 octet */
+#define SAE_RECORD_REJECTED 9       /* 1 octet: bit i is set if the peer refused the i-th listed group, from 0 */
+#define SAE_RECORD_SC 10            /* 2 octets: the counter of the run's last Confirm */
+#define SAE_RECORD_GROUP 12         /* 2 octets: the run's group */
+#define SAE_RECORD_TOKEN_LENGTH 14  /* 2 octets: of the token that its Commits carry */
+#define SAE_RECORD_T0 16            /* 4 octets: the run's deadline */
+#define SAE_RECORD_OWN 20           /* a commit: the run's own */
+#define SAE_RECORD_PEER 164         /* a commit: the run's other one, from Confirmed on */
+#define SAE_RECORD_TOKEN 308        /* 256 octets, zero past the token */
+#define SAE_RECORD_LINK 564         /* 1 octet: finished link, 0 or 1 */
+#define SAE_RECORD_SUPERSEDED 565   /* 1 octet: the link's mark, 1 if a pair was formed since */
+#define SAE_RECORD_LINK_SYNC 566    /* 1 octet */
+#define SAE_RECORD_LINK_GROUP 568   /* 2 octets */
+#define SAE_RECORD_RC 570           /* 2 octets: the counter last taken */
+#define SAE_RECORD_T1 572           /* 4 octets: the link's deadline */
+#define SAE_RECORD_LINK_OWN 576     /* a commit */
+#define SAE_RECORD_LINK_PEER 720    /* a commit */
 
 /* Sets up a table, and clears what it held.
  *
- * table, table_len   SAE_TABLE_LEN(slots) octets of any content, slots from 1 to 64
+ * table, table_len   SAE_TABLE_LEN(slots) octets of any content, slots from 1 to SAE_MAX_SLOTS
  * own                the own address: an individual one, not zero
  * settings           as above
  * answer             no event, no frames, the own address
@@ -158,7 +207,8 @@ uint32_t sae_kill(uint8_t *table, size_t table_len, const uint8_t address[6], ui
  * fresh, fresh_len        fresh commits, in case one is needed
  * expected, expected_len  the token of 32 octets that the host expects from this sender
  * verified                the chip's verdict, 0 or 1: whether a Commit's scalar and element are valid, or a Confirm's value is right for
- *                         the pair that it meets (the run's if it is Confirmed, the link's if there is no run); 0 for other frames
+ *                         its counter and the pair that it meets (the run's if it is Confirmed, the link's if there is no run); 0 for
+ *                         other frames
  * answer                  event, frames to send, group used; a frame that is dropped answers none of them
  *
  * Refuses 2, 3, 4, 5, 6, 7 and 9. */
@@ -166,11 +216,11 @@ uint32_t sae_receive(uint8_t *table, size_t table_len, const uint8_t address[6],
                      const uint8_t *fresh, size_t fresh_len, const uint8_t *expected, size_t expected_len, uint8_t verified,
                      uint8_t answer[28]);
 
-/* Serves one deadline that is due: the lowest slot's, the retry of a run (t0) before the end of a link (t1). To be called until octet 0
- * of the answer is 1.
+/* Serves one deadline that is due: the lowest slot's, the retry of a run (t0) before the end of a link (t1). To be called until octet
+ * SAE_ANSWER_NONE_DUE of the answer is 1.
  *
  * now                the clock's reading in milliseconds
- * answer             event and frames to send, or octet 0 is 1 if none is due
+ * answer             event and frames to send, or SAE_ANSWER_NONE_DUE is 1 if none is due
  *
  * Refuses 2. */
 uint32_t sae_expire(uint8_t *table, size_t table_len, uint32_t now, uint8_t answer[28]);
@@ -206,17 +256,27 @@ uint32_t sae_write_record(const uint8_t *table, size_t table_len, const uint8_t 
 /* Reads a frame body with the table's list of groups.
  *
  * frame, frame_len   the body
- * parts              20 octets; what a body does not have is 0:
- *    0-1    sequence
- *    2-3    status
- *    4-5    group
- *    6-7    counter
- *    8-11   offset of the token in the frame, 8 in a Commit of a listed group also if the token is empty
- *    12-15  length of the token
- *    16-19  offset of the scalar (the element follows it), or of a Confirm's value
+ * parts              as above
  *
  * Refuses 2 and 7. */
 uint32_t sae_read(const uint8_t *table, size_t table_len, const uint8_t *frame, size_t frame_len, uint8_t parts[20]);
+
+/* Says how long the clock may rest: the time from now until the table's earliest deadline, t0 of a run or t1 of a link.
+ *
+ * now                the clock's reading in milliseconds
+ * milliseconds       0 if a deadline is due (sae_expire has something to serve), SAE_NO_DEADLINE if the table has none, else 1 to 2^31:
+ *                    sae_expire has nothing to serve until then, and something then, if no other call changes the table
+ *
+ * Refuses 2. */
+uint32_t sae_next_deadline(const uint8_t *table, size_t table_len, uint32_t now, uint32_t *milliseconds);
+
+/* Says where an address's record lies in the table.
+ *
+ * address            the peer
+ * offset             where its record starts, or 0 if it has none; it stays there until it is freed
+ *
+ * Refuses 2 and 3. */
+uint32_t sae_find(const uint8_t *table, size_t table_len, const uint8_t address[6], uint32_t *offset);
 
 #ifdef __cplusplus
 }

@@ -31,7 +31,7 @@ OUTCOMES = {
     "one end linked": ("#f7df9c", "one end holds a link, the other has none: event 3 there, or a run given up"),
     "linked, then not": ("#f3b8aa", "event 1 at an end or both, then event 3; neither holds a link"),
     "given up": ("#d3dae2", "event 2 and no link at any time"),
-    "never at rest": ("#d8c6ea", "runs are given up and begun anew from late frames, without end"),
+    "never at rest": ("#d8c6ea", "runs are given up and begun anew from late frames; not at rest after 120 s"),
 }
 
 LEFT, RIGHT, FIRST = 250, 1150, 10
