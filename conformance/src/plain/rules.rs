@@ -14,17 +14,6 @@ pub const LINK_COUNTER: u16 = 65_535;
 /// From a finished link to its end, in milliseconds.
 const LINK_LIFE: u32 = 86_400_000;
 
-/// "40 × 2^Sync, from a table of seven entries."
-const DELAYS: [u32; 7] = {
-    let mut delays = [Settings::PERIOD; 7];
-    let mut sync = 1;
-    while sync < delays.len() {
-        delays[sync] = 2 * delays[sync - 1];
-        sync += 1;
-    }
-    delays
-};
-
 /// What a rule looks at besides the record.
 pub struct Turn<'a> {
     pub now: u32,
@@ -108,7 +97,7 @@ impl Step {
 
 /// "Set t0": deadline = now + 40 × 2^Sync, modulo 2^32.
 fn set_t0(peer: &mut Record, now: u32) {
-    peer.set_t0(now.wrapping_add(DELAYS[usize::from(peer.sync())]));
+    peer.set_t0(now.wrapping_add(Settings::PERIOD << peer.sync()));
 }
 
 /// "Repeat": if Sync is above 5, give up; else Sync + 1, send, set t0.

@@ -7,17 +7,6 @@ ghost use Rattle.record.specs.Layout.{decodePeer, recordSize};
 ghost use Rattle.rules.specs.Book.{factory, delay, deadline, due, t0Due, expired};
 use record::Settings;
 
-// The delays before t0, by Sync: the first period, doubled each time.
-const DELAYS: [u32; 7] = [
-    Settings::PERIOD,
-    2 * Settings::PERIOD,
-    4 * Settings::PERIOD,
-    8 * Settings::PERIOD,
-    16 * Settings::PERIOD,
-    32 * Settings::PERIOD,
-    64 * Settings::PERIOD,
-];
-
 // Half of the clock's range.
 const HALF: u32 = 2147483648;
 
@@ -32,11 +21,13 @@ pub fn is_due(time: u32, at: u32) -> bool
     gone < HALF
 }
 
+// "40 × 2^Sync is worked out": the first period, doubled Sync times.
 fn delay_of(sync: u8) -> u32
     requires { ⌜ sync ≤ 6 ⌝ }
     ensures { λ r. ⌜ r ≡ delay factory sync ⌝ }
 {
-    DELAYS[sync as usize]
+    let doublings = sync;
+    Settings::PERIOD << doublings
 }
 
 fn after(time: u32, wait: u32) -> u32

@@ -298,11 +298,11 @@ confirmFrame counter = record { sequence = 2; status = 0; group = 0; counter = c
 
 -- ---- the scope's own words: "Set t0", "Repeat", "Give up", "Drop", "Form"
 
--- 40 × 2^Sync
+-- "40 × 2^Sync is worked out": the first period, doubled Sync times (request d)
 unfoldable pub delay : Timing → ℕ → ℕ
 delay τ sync = τ .period * 2 ^ sync
 
--- "Set t0": deadline = now + 40 × 2^Sync, from a table of seven entries, modulo 2^32.
+-- "Set t0": deadline = now + 40 × 2^Sync, modulo 2^32.
 unfoldable pub setT0 : Timing → Run → ℕ → Run
 setT0 τ r time = withT0 r (deadline time (delay τ (r .sync)))
 

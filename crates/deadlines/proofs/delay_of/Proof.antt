@@ -1,32 +1,22 @@
-use mathlib.Core.Path.{_≡_, refl}
-use mathlib.Core.List.{[], _∷_}
-use Prim.Native.Nat.{ℕ, zero, suc, _≤_, _*_, _^_}
+use lib.Dec.{lit<}
+use lib.Pow.{shl-exact}
 use native.Mathlib.Omega.{arith}
-use lib.ListN.{getD}
+use Rattle.record.specs.Layout.{factoryPeriod}
 use Rattle.rules.specs.Book.{delay}
 use borrow.Author.Needs.{needs}
 use Rattle.deadlines.proofs.delay_of.Statement.{statement}
 use Rattle.deadlines.proofs.delay_of.Tie as tie
 
-delays : (n : ℕ) → n ≤ 6 → getD (40 ∷ 80 ∷ 160 ∷ 320 ∷ 640 ∷ 1280 ∷ 2560 ∷ []) n 0 ≡ 40 * 2 ^ n
-delays zero h = refl
-delays (suc zero) h = refl
-delays (suc (suc zero)) h = refl
-delays (suc (suc (suc zero))) h = refl
-delays (suc (suc (suc (suc zero)))) h = refl
-delays (suc (suc (suc (suc (suc zero))))) h = refl
-delays (suc (suc (suc (suc (suc (suc zero)))))) h = refl
-delays (suc (suc (suc (suc (suc (suc (suc n))))))) h = absurd (omega arith)
+cast-result : tie.Need-cast-result
+cast-result c = search needs
 
-mul-result : tie.Need-mul-result
-mul-result c = search needs
+shl-result : tie.Need-shl-result
+shl-result c = search needs
 
-array-read-result : tie.Need-array-read-result
-array-read-result c = search needs
-
+-- the period has 6 bits, and 6 more places are within 32: none is shifted out
 returns : tie.Need-returns
 unfolding delay
-returns c = delays (c .args .sync) (c .pre)
+returns c = shl-exact {a = factoryPeriod} 6 (c .args .sync) 32 (lit< tt) (omega arith)
 
 pub delay-of-spec : {M : Type 1} → statement M
-delay-of-spec = tie.close (tie.spec mul-result array-read-result returns)
+delay-of-spec = tie.close (tie.spec cast-result shl-result returns)
