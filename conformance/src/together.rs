@@ -1,6 +1,9 @@
 //! The engines side by side: each has a table of its own, makes every call, and is compared.
 
+use crate::history::Answer;
 use crate::interface::{engines, Call, Counts, Lent};
+use crate::plain::peer::Peer;
+use crate::plain::table::slots;
 use crate::report::difference;
 use crate::trace::{call_line, expected_lines, shorten, table_lines};
 
@@ -42,6 +45,20 @@ pub enum Known {
     Sound,
     /// It is not: every call but initialize must refuse it.
     Unsound,
+}
+
+/// "A deadline then moves only when a frame is sent, or a run or link starts or ends": a run starts with a frame sent, and a link
+/// as its run ends. A slot that breaks it, in words.
+fn moved_deadline(before: &[u8], after: &[u8], answer: &Answer) -> Option<String> {
+    let records = slots(before).iter().map(Peer).zip(slots(after).iter().map(Peer));
+    for (slot, (old, new)) in records.enumerate().filter(|(_, (old, new))| (old.t0(), old.t1()) != (new.t0(), new.t1())) {
+        let sent = !answer.frames.is_empty() && *new.address() == answer.address;
+        let ended = (old.has_run() && !new.has_run()) || (old.has_link() && !new.has_link());
+        if !sent && !ended {
+            return Some(format!("  a deadline in slot {slot} moved, and nothing was sent to its peer, began or ended"));
+        }
+    }
+    None
 }
 
 /// A difference, or a fault of one engine, with the lines that make it again.
@@ -137,6 +154,9 @@ impl Together {
             }
             if allowed != *after {
                 return Some("  an octet was written that is not of the answer".into());
+            }
+            if call.may_change() && !initialize {
+                return moved_deadline(&self.before, table, &Answer::read(&after.answer));
             }
         }
         None

@@ -116,11 +116,8 @@ fn abandon(peer: &mut Record) -> Step {
     Step::event(Event::Abandoned)
 }
 
-/// "Drop": send nothing; with a run in being, set t0.
-fn drop_frame(peer: Option<&mut Record>, now: u32) -> Step {
-    if let Some(peer) = peer.filter(|peer| peer.has_run()) {
-        set_t0(peer, now);
-    }
+/// "Drop": send nothing; "a dropped frame changes nothing in the table".
+fn drop_frame() -> Step {
     Step::quiet()
 }
 
@@ -163,23 +160,23 @@ fn commit_without_run(mut peer: Option<&mut Record>, turn: &Turn, body: &Body) -
         // "unsupported group, send 77 with it"
         Body::UnsupportedCommit { group } => return Ok(Step::send(Frame::group_refusal(group))),
         // "status nonzero, drop"
-        _ => return Ok(drop_frame(peer, turn.now)),
+        _ => return Ok(drop_frame()),
     };
     // "finished link with that group and peer scalar, drop"
     let known = |peer: &&mut Record| peer.has_link() && peer.link_group() == group && same_scalar(group, peer.link_peer(), commit);
     if peer.as_ref().is_some_and(known) {
-        return Ok(drop_frame(peer, turn.now));
+        return Ok(drop_frame());
     }
     // "Open at or above the threshold: empty token, send 76 with group and expected token; wrong token, drop"
     if turn.crowded && token.is_empty() {
         return Ok(Step::send(Frame::token_request(group)));
     }
     if turn.crowded && token != turn.expected {
-        return Ok(drop_frame(peer, turn.now));
+        return Ok(drop_frame());
     }
     // "then commit equal to our stock's, or verdict 0, drop"
     if !turn.verified || commit == turn.groups.fresh_commit(turn.fresh, group) {
-        return Ok(drop_frame(peer, turn.now));
+        return Ok(drop_frame());
     }
     // "no slot, refuse; else fresh commit, Form, send Commit and Confirm"
     let peer = peer.as_mut().ok_or(Refusal::NoFreeSlot)?;
@@ -189,7 +186,7 @@ fn commit_without_run(mut peer: Option<&mut Record>, turn: &Turn, body: &Body) -
 /// Commit in Committed, "76: our group, store the token, send Commit with it, set t0, not counted; other group, drop."
 fn token_request_in_committed(peer: &mut Record, turn: &Turn, group: u16, token: &[u8]) -> Step {
     if group != peer.group() {
-        return drop_frame(Some(peer), turn.now);
+        return drop_frame();
     }
     peer.set_token(token);
     set_t0(peer, turn.now);
@@ -200,7 +197,7 @@ fn token_request_in_committed(peer: &mut Record, turn: &Turn, group: u16, token:
 /// rejected, with a fresh commit (Sync and token stay, send, set t0); none, give up. Other group, drop."
 fn group_refusal_in_committed(peer: &mut Record, turn: &Turn, group: u16) -> Step {
     if group != peer.group() {
-        return drop_frame(Some(peer), turn.now);
+        return drop_frame();
     }
     let rejected = peer.rejected() | 1 << turn.groups.place(group);
     let mut listed = turn.groups.listed().iter().enumerate();
@@ -229,7 +226,7 @@ fn commit_in_committed(peer: &mut Record, turn: &Turn, group: u16, commit: &[u8]
     }
     let reflected = commit == if ours { peer.own_commit() } else { turn.groups.fresh_commit(turn.fresh, group) };
     if reflected || !turn.verified {
-        return drop_frame(Some(peer), turn.now);
+        return drop_frame();
     }
     if !ours {
         return answer_commit(peer, turn, group, commit);
@@ -256,7 +253,7 @@ fn commit_in_confirmed(peer: &mut Record, turn: &Turn, group: u16) -> Step {
         return abandon(peer);
     }
     if group != peer.group() {
-        return drop_frame(Some(peer), turn.now);
+        return drop_frame();
     }
     peer.set_sync(peer.sync() + 1);
     peer.set_sc(peer.sc() + 1);
@@ -268,7 +265,7 @@ fn commit_in_confirmed(peer: &mut Record, turn: &Turn, group: u16) -> Step {
 /// t1 = now + 86,400,000, any earlier link replaced."
 fn confirm_in_confirmed(peer: &mut Record, turn: &Turn, counter: u16) -> Step {
     if !turn.verified {
-        return drop_frame(Some(peer), turn.now);
+        return drop_frame();
     }
     peer.link_run(counter, turn.now.wrapping_add(LINK_LIFE));
     peer.end_run();
@@ -282,7 +279,7 @@ fn confirm_at_link(peer: &mut Record, turn: &Turn, counter: u16) -> Step {
         return end_link(peer);
     }
     if counter <= peer.rc() || !turn.verified {
-        return drop_frame(Some(peer), turn.now);
+        return drop_frame();
     }
     peer.set_rc(counter);
     if counter == LINK_COUNTER {
@@ -310,9 +307,9 @@ fn receive_without_run(peer: Option<&mut Record>, turn: &Turn, body: &Body) -> R
     match *body {
         Body::Confirm { counter } => match peer {
             Some(peer) if peer.has_link() => Ok(confirm_at_link(peer, turn, counter)),
-            peer => Ok(drop_frame(peer, turn.now)),
+            _ => Ok(drop_frame()),
         },
-        Body::FailedConfirm { .. } => Ok(drop_frame(peer, turn.now)),
+        Body::FailedConfirm { .. } => Ok(drop_frame()),
         _ => commit_without_run(peer, turn, body),
     }
 }
@@ -325,7 +322,7 @@ fn receive_in_committed(peer: &mut Record, turn: &Turn, body: &Body) -> Step {
         Body::Commit { group, commit, .. } => commit_in_committed(peer, turn, group, commit),
         Body::Confirm { .. } => confirm_in_committed(peer, turn),
         // "Other nonzero status, drop."
-        Body::FailedCommit { .. } | Body::FailedConfirm { .. } => drop_frame(Some(peer), turn.now),
+        Body::FailedCommit { .. } | Body::FailedConfirm { .. } => drop_frame(),
     }
 }
 
@@ -334,7 +331,7 @@ fn receive_in_confirmed(peer: &mut Record, turn: &Turn, body: &Body) -> Step {
         Body::Commit { group, .. } | Body::UnsupportedCommit { group } => commit_in_confirmed(peer, turn, group),
         Body::Confirm { counter } => confirm_in_confirmed(peer, turn, counter),
         // "status nonzero, drop"
-        _ => drop_frame(Some(peer), turn.now),
+        _ => drop_frame(),
     }
 }
 

@@ -5,8 +5,7 @@ use mathlib.Core.List.{List}
 use Prim.Native.Nat.{ℕ, _+_, _≤_, _<_}
 use native.Mathlib.Omega.{arith}
 use lib.Dec.{eqb, ltb, lit<}
-use lib.ListN.{length, take, drop, replicate, length-replicate, length-drop}
-use lib.Seq.{length-take-le}
+use lib.ListN.{length, take, drop, replicate, length-replicate}
 use borrow.Rule.Slice.PartMut.{putMid}
 use borrow.Author.Tests.{eq-eqb, ne-eqb, lt-ltb, le-ltb}
 use Rattle.octets.specs.Octets.{part, put, num, oct}
@@ -20,36 +19,13 @@ use Rattle.record.specs.declared.Peer.{Peer}
 use Rattle.record.proofs.Laws.{ShapeLink, dec-enc-link}
 use Rattle.record.proofs.Windows.{laid, laid-put, used-left, address-left, run-window, run-left, link-window, link-left, no-run-left, no-link-left, no-peer-left}
 use Rattle.rules.specs.Parts.{withRun, withLink, counting}
-use Rattle.rules.specs.Book.{factory, deadline, delay, setT0, sending, settled, abandoning, retransmitting, dropping, formedRun, forming, supersede, linkOfRun, accepting, endingLink}
+use Rattle.rules.specs.Book.{factory, deadline, delay, setT0, sending, settled, abandoning, retransmitting, formedRun, forming, supersede, linkOfRun, accepting, endingLink}
 use Rattle.rules.specs.Said.{sayingFrames, sayingEvent, Does}
 use Rattle.rules.specs.declared.Event.the-variants as event
 use Rattle.rules.specs.declared.Frames.{Frames}
-use Rattle.rules.specs.declared.Frames.the-variants as frames
 use Rattle.rules.specs.declared.Said.{Said}
 
 -- ---- in the run's octets
-
-pub run-sync : (s : List ℕ) → decodeRun width s .sync ≡ num (part s 1 1)
-unfolding decodeRun runOf runWidths cut
-run-sync s = refl
-
-pub set-t0-law : (s t : List ℕ) (time x : ℕ) → length s ≡ runSize width → x < 4294967296 → x ≡ deadline time (delay factory (decodeRun width s .sync)) → t ≡ put s 9 (oct 4 x)
-    → decodeRun width t ≡ setT0 factory (decodeRun width s) time
-unfolding decodeRun runOf runWidths cut total setT0
-set-t0-law s t time x h b e q =
-    let L = laid-put t 6 9 (oct 4 x) (laid (runWidths width) s (runSize width) h) (lit< tt) (length-oct 4 x) refl (omega (arith, length-oct 4 x)) q in
-    ap runOf (L .cuts) ∙ (λ i. record {
-      state = decodeRun width s .state;
-      sync = decodeRun width s .sync;
-      rejected = decodeRun width s .rejected;
-      sc = decodeRun width s .sc;
-      group = decodeRun width s .group;
-      toklen = decodeRun width s .toklen;
-      t0 = (num-oct 4 x b ∙ e) i;
-      own = decodeRun width s .own;
-      peer = decodeRun width s .peer;
-      token = decodeRun width s .token;
-    })
 
 pub count-law : (s s₁ s₂ t : List ℕ) (sync sc time x : ℕ) → length s ≡ runSize width → sync < 256 → sc < 65536 → x < 4294967296 → x ≡ deadline time (delay factory sync)
     → s₁ ≡ put s 1 (oct 1 sync) → s₂ ≡ put s₁ 3 (oct 2 sc) → t ≡ put s₂ 9 (oct 4 x) → decodeRun width t ≡ setT0 factory (counting (decodeRun width s) sync sc) time
@@ -144,21 +120,6 @@ module _ (s : List ℕ) (h : length s ≡ recordSize width) where
     says = q;
   }
 
-  -- "Drop"
-  pub drop-free : (f : ℕ) (time : ℕ) (x : Said) → f ≡ decodePeer width s .run .state → f ≡ 0 → x ≡ sayingFrames frames.None → Does x s (dropping factory (decodePeer width s) time)
-  unfolding dropping
-  drop-free f time x e z w =
-      let k : eqb (decodePeer width s .run .state) 0 ≡ true = eq-eqb _ _ (sym e ∙ z) in
-      record { leaves = rw k refl; says = w }
-
-  pub drop-run : (y : List ℕ) (f time : ℕ) (x : Said) → f ≡ decodePeer width s .run .state → (f ≡ 0 → ⊥) → length y ≡ runSize width
-      → decodeRun width y ≡ setT0 factory (decodeRun width (take (runSize width) (drop 7 s))) time → x ≡ sayingFrames frames.None
-      → Does x (putMid 7 (runSize width) s y) (dropping factory (decodePeer width s) time)
-  unfolding dropping
-  drop-run y f time x e d n q w =
-      let k : eqb (decodePeer width s .run .state) 0 ≡ false = ne-eqb _ _ (λ z. d (e ∙ z)) in
-      record { leaves = rw k (run-changed y _ n (q ∙ ap (λ (r : Run). setT0 factory r time) (run-window s h))); says = w }
-
   zero-run : (y : List ℕ) (m : ℕ) → y ≡ replicate m 0 → length y ≡ runSize width → decodeRun width y ≡ noRun
   zero-run y m q n = ap (decodeRun width) q ∙ no-run-left m (sym (length-replicate m 0) ∙ ap length (sym q) ∙ n)
 
@@ -234,10 +195,6 @@ module _ (s : List ℕ) (h : length s ≡ recordSize width) where
             ∙ ap (λ (p : Peer). record { used = 1; address = p .address; run = p .run; link = p .link }) (b ∙ ap (λ (p : Peer). record { used = p .used; address = p .address; run = p .run; link = supersede (decodePeer width s .link) }) a));
         says = w;
       }
-
-  -- what "Drop" asks of the run
-  pub drop-asked : decodePeer width s .run .sync ≤ 6 → (length (take (runSize width) (drop 7 s)) ≡ runSize width) × (decodeRun width (take (runSize width) (drop 7 s)) .sync ≤ 6)
-  drop-asked b = (length-take-le (runSize width) (drop 7 s) (simp length-drop (omega arith)), subst (λ (r : Run). r .sync ≤ 6) (sym (run-window s h)) b)
 
 -- "Repeat"
 module _ (s u : List ℕ) (x : Said) (sc time : ℕ) (fs : Frames) (n : ℕ) (e : n ≡ decodePeer width s .run .sync) where

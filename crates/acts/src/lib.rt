@@ -1,12 +1,12 @@
-// What the acts of the rule book share, in a record's own octets: the scope's own words "Set t0", "Repeat", "Give up", "Drop" and "Form", how a run
-// becomes a link, and how a link ends.
+// What the acts of the rule book share, in a record's own octets: the scope's own words "Repeat", "Give up" and "Form", how a run becomes a link, and
+// how a link ends. "Drop" changes nothing there.
 ghost use mathlib.Core.Path.{_≡_};
 ghost use Prim.Native.Nat.{_+_, _≤_, _<_};
 ghost use lib.ListN.{length};
 ghost use Rattle.groups.specs.Groups.{width};
 ghost use Rattle.record.specs.Layout.{decodeRun, decodeLink, decodePeer, runSize, linkSize, recordSize};
 ghost use Rattle.rules.specs.Parts.{counting};
-ghost use Rattle.rules.specs.Book.{factory, commitFrame, tokenRequestFrame, groupRefusalFrame, confirmFrame, setT0, sending, abandoning, retransmitting, dropping, supersede, formedRun, forming, linkOfRun, accepting, endingLink};
+ghost use Rattle.rules.specs.Book.{factory, commitFrame, tokenRequestFrame, groupRefusalFrame, confirmFrame, setT0, sending, abandoning, retransmitting, supersede, formedRun, forming, linkOfRun, accepting, endingLink};
 ghost use Rattle.rules.specs.Said.{sayingFrames, sayingEvent, sayingRefused, Does};
 use groups::COMMIT;
 use record::ADDRESS;
@@ -77,16 +77,6 @@ pub fn confirm_frame(counter: u16) -> Frame
 }
 
 // ---- in the run's octets
-
-// "Set t0".
-fn set_t0(r: &mut [u8], time: u32)
-    requires { ⌜ (length (now r) ≡ runSize width) × (decodeRun width (now r) .sync ≤ 6) ⌝ }
-    ensures { λ _. ⌜ decodeRun width (now (r .exit)) ≡ setT0 factory (decodeRun width (now (r .entry))) time ⌝ }
-{
-    let sync = octets::get8(r, SYNC);
-    let at = deadlines::t0_at(time, sync);
-    octets::put32(r, T0, at);
-}
 
 // Another Sync and Sc, and t0 set.
 fn count_run(r: &mut [u8], sync: u8, sc: u16, time: u32)
@@ -222,19 +212,6 @@ pub fn retransmit(s: &mut [u8], sc: u16, frames: Frames, time: u32) -> Said
         return abandon(s);
     }
     send_counted(s, sync + 1, sc, frames, time)
-}
-
-// "Drop".
-pub fn drop_frame(s: &mut [u8], time: u32) -> Said
-    requires { ⌜ (length (now s) ≡ recordSize width) × (decodePeer width (now s) .run .sync ≤ 6) ⌝ }
-    ensures { λ x. ⌜ Does x (now (s .exit)) (dropping factory (decodePeer width (now (s .entry))) time) ⌝ }
-{
-    let state = record::state_of(s);
-    if state == 0 {
-        return say_frames(Frames::None);
-    }
-    set_t0(&mut s[RUN..LINK], time);
-    say_frames(Frames::None)
 }
 
 // "Form".

@@ -7,7 +7,7 @@ use Prim.Native.Nat.{ℕ, _+_, _≤_, _<_}
 use native.Mathlib.Omega.{arith}
 use lib.Dec.{eqb}
 use lib.ListN.{length, getD}
-use borrow.Author.Tests.{eqb-true, ne-eqb, eqb-false, ltb-false}
+use borrow.Author.Tests.{eqb-true, ne-eqb, ltb-false}
 use Rattle.octets.specs.Scan.{if_then_else_}
 use Rattle.octets.proofs.Scan.{clash}
 use Rattle.groups.specs.Groups.{freshFor, freshAt, listed, firstLeft}
@@ -157,15 +157,6 @@ pub no-link-finished : (l : Link) → l ≡ noLink → l .finished ≡ 0
 unfolding noLink
 no-link-finished l e = ap (λ (x : Link). x .finished) e
 
-later-run : (τ : Timing) (p : Peer) (time : ℕ) → eqb (p .run .state) 0 ≡ false → SameRun p (withRun p (setT0 τ (p .run) time))
-unfolding withRun setT0
-later-run τ p time f =
-    record { free = λ e. absurd (eqb-false _ _ f (no-run-state (p .run) e)); state = refl; group = refl; own = refl; peer = refl; sync = refl; sc = refl }
-
-later-link : (τ : Timing) (p : Peer) (time : ℕ) → SameLink p (withRun p (setT0 τ (p .run) time))
-unfolding withRun
-later-link τ p time = record { free = λ e. e; finished = refl; superseded = refl; group = refl; own = refl; peer = refl }
-
 heard-link : (p : Peer) (rc sync : ℕ) → (p .link .finished ≡ 0 → ⊥) → SameLink p (withLink p (heardAgain (p .link) rc sync))
 unfolding withLink heardAgain
 heard-link p rc sync d = record { free = λ e. absurd (d (no-link-finished (p .link) e)); finished = refl; superseded = refl; group = refl; own = refl; peer = refl }
@@ -175,11 +166,9 @@ unfolding withLink
 heard-run p rc sync = record { free = λ e. e; state = refl; group = refl; own = refl; peer = refl; sync = refl; sc = refl }
 
 module _ (gs : List ℕ) (c : Call) (τ : Timing) (p : Peer) (n : isStart c ≡ false) (five : τ .limit ≡ 5) (W : Whole p) where
-  dropped : (time : ℕ) → Does gs c p (dropping τ p time)
-  unfolding dropping
-  dropped time =
-      quiet n (either (SameRun p) (p .run .state is 0) (λ e. same-run p) (λ e. later-run τ p time e))
-      (either (SameLink p) (p .run .state is 0) (λ e. same-link p) (λ e. later-link τ p time))
+  dropped : Does gs c p (dropping p)
+  unfolding dropping answering
+  dropped = quiet n (same-run p) (same-link p)
 
   denied : Does gs c p (refusing p)
   unfolding refusing
@@ -294,7 +283,7 @@ module _ (t : Terms) (b : book.Call) (c : Call) (p : Peer) (m : Message) (n : is
   act-does (hear-again r d l h v) f = heard-again (t .groups) c (t .timing) p n five W (m .counter) (without p z r) d
   act-does (hear-last r d l h v) f = heard-last (t .groups) c (t .timing) p n five W (m .counter) d
   act-does end-link f = ended (t .groups) c (t .timing) p n five W
-  act-does drop f = dropped (t .groups) c (t .timing) p n five W (b .time)
+  act-does (drop d) f = dropped (t .groups) c (t .timing) p n five W
 
   pub frame-does : Does (t .groups) c p (onFrame t b p m)
   unfolding onFrame

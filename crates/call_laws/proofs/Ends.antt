@@ -13,6 +13,7 @@ use Rattle.soundness.specs.Soundness.{usable}
 use Rattle.table.specs.Table.{Table, decodeTable, slot, finds, lookBy, look, sound, entry, foundEntry}
 use Rattle.table.specs.declared.Entry.{Entry}
 use Rattle.table.specs.declared.Entry.the-variants as entry-is
+use Rattle.table.proofs.Laws.{entry-at, entry-absent}
 use Rattle.rules.specs.Book.{Step}
 use Rattle.rule_laws.proofs.Slots.{clock-seated}
 use Rattle.answers.specs.declared.Refusal.{Refusal}
@@ -23,6 +24,7 @@ use Rattle.answers.specs.declared.Outcome.{Outcome}
 use Rattle.answers.specs.declared.Outcome.the-variants as outcome
 use Rattle.answers.specs.declared.Answer.{Answer}
 use Rattle.answers.specs.Answers.{Left, seating, finishAt, finishes, turned, refuse, refused, said}
+use Rattle.answers.proofs.Laws.{Entered, old, new}
 use Rattle.answers.proofs.Ending.{Finished, finish-ends}
 use Rattle.calls.specs.Calls.{dueSlot, clockStep, expiresBy, expires}
 use Rattle.call_laws.proofs.Good.{expire-good, expire-address}
@@ -49,6 +51,11 @@ came t a = go (sound t) (usable (decodeTable t .header .own) a) (finds (decodeTa
 pub look-found : (T : Table) (a : List ℕ) (f : Found) → finds T a ≡ f → lookBy T f ≡ look T a
 unfolding look
 look-found T a f e = ap (lookBy T) (sym e)
+
+-- a call that goes on has found the address's record, or that it has none
+pub entered-finds : (t a : List ℕ) (f : Found) → Entered t a f → finds (decodeTable t) a ≡ f
+entered-finds t a f (old {k} e) = entry-at t a k e .1 .1
+entered-finds t a f (new e) = entry-absent t a e .1 .1
 
 -- ---- the answer, by whether the step is refused
 

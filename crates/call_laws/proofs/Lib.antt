@@ -7,3 +7,5 @@ pub mod Sound
 pub mod Isolated
 pub mod Isolation
 pub mod Sends
+pub mod Drops
+pub mod Deadlines

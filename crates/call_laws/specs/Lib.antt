@@ -3,3 +3,5 @@ pub mod Causes
 pub mod Alike
 pub mod Isolation
 pub mod Writable
+pub mod Drops
+pub mod Deadlines

@@ -21,9 +21,9 @@ unfolding octets.part octets.num octets.oct octets.allZero octets.same scan.allB
     frame.readConfirm frame.readBody frame.scalarOf frame.elementOf frame.commitOf frame.head layout.noRun layout.noLink layout.noPeer
     tables.slot tables.openCount tables.freeSlot tables.lookBy tables.recounted tables.withPeer tables.placed parts.counting
     parts.heardAgain parts.withRun parts.withLink book.deadline book.due book.holds book.linkedWith book.t0Due book.t1Due book.expired
-    book.startAct book.commitIdle book.confirmLinked book.clockAct book.commitAct book.confirmAct book.frameAct book.delay book.setT0
+    book.startAct book.commitIdle book.commitCommitted book.confirmLinked book.clockAct book.commitAct book.confirmAct book.frameAct book.delay book.setT0
     book.sending book.answering book.settled book.abandoning book.retransmitting book.dropping book.forming book.startedRun book.starting
-    book.answeringCommit book.repeatingCommit book.confirmingAgain book.hearingAgain book.perform book.onFrame book.onClock book.onStart
+    book.answeringCommit book.repeatingCommit book.confirmingAgain book.hearingAgain book.hearingLast book.perform book.onFrame book.onClock book.onStart
     views.view views.commitIn views.message calls.crowded calls.full calls.startStep calls.admitFrame calls.frameStep
     calls.dueSlot calls.clockStep edge.named edge.answer edge.holds edge.allHold
 edges-hold = refl

@@ -1,4 +1,5 @@
--- The edges marked as proved, as one table: each case asks a question of the definitions of calls and rules and has the numbers that answer it.
+-- The edges marked as proved, and those that the requests bring, as one table: each case asks a question of the definitions of calls and rules and has the
+-- numbers that answer it.
 use mathlib.Core.Bool.{Bool, true, _&&_}
 use mathlib.Core.List.{List, [], _∷_, _++_}
 use Prim.Native.Nat.{ℕ, zero, suc, _+_}
@@ -171,6 +172,8 @@ pub data Question : Type 0 where
   Deadline : ℕ → Question
   -- started at a reading, the slot that a clock call at another reading takes
   Due : ℕ → ℕ → Question
+  -- started at a reading, and a Commit with verdict 0 heard at a second one: the act, and the slot that a clock call at a third takes
+  Noisy : ℕ → ℕ → ℕ → Question
   -- a run in a state with a Sync whose t0 is due: the act that the ladder names, event, Sync left, frames
   Expired : ℕ → ℕ → Question
   -- a link with a Sync and Rc gets a Confirm with a counter and a verdict: the act, Rc and Sync left, frames
@@ -182,10 +185,10 @@ pub data Question : Type 0 where
 abbrev pub started : ℕ → Peer
 started time = startStep empty found.Nothing (address 1) time stock .peer
 
--- the act that the ladder names for a frame, heard at 0 from an address whose record is at f
-abbrev pub heard : Table → Found → List ℕ → List ℕ → ℕ → Act
-heard T f a frame verdict =
-    frameAct (termsOf T f) (brings a 0 stock expected (verdict is 1)) (lookBy T f) (message (groupsOf (T .header)) frame)
+-- the act that the ladder names for a frame, heard at a reading from an address whose record is at f
+abbrev pub heard : Table → Found → List ℕ → ℕ → List ℕ → ℕ → Act
+heard T f a time frame verdict =
+    frameAct (termsOf T f) (brings a time stock expected (verdict is 1)) (lookBy T f) (message (groupsOf (T .header)) frame)
 
 abbrev pub sayExpired : Act → Step → List ℕ
 sayExpired a s = named a ∷ eventNumber (s .event) ∷ s .peer .run .sync ∷ framesNumbers (s .frames)
@@ -202,15 +205,21 @@ answerExpired T = sayExpired (clockAct (slot T 7) 0) (clockStep T 7 0)
 
 abbrev pub answerConfirmed : Table → List ℕ → ℕ → List ℕ
 answerConfirmed T frame verdict =
-    sayConfirmed (heard T (found.At 7) (address 1) frame verdict) (frameStep T (found.At 7) (address 1) 0 frame stock expected verdict)
+    sayConfirmed (heard T (found.At 7) (address 1) 0 frame verdict) (frameStep T (found.At 7) (address 1) 0 frame stock expected verdict)
+
+abbrev pub answerNoisy : Table → List ℕ → ℕ → ℕ → List ℕ
+answerNoisy T frame time later =
+    named (heard T (found.At 7) (address 1) time frame 0)
+    ∷ slotNumbers (dueSlot (placed T 7 (frameStep T (found.At 7) (address 1) time frame stock expected 0 .peer)) later)
 
 abbrev pub answerOffered : Table → List ℕ → List ℕ
-answerOffered T frame = sayOffered (heard T found.Nothing (address 100) frame 1) (frameStep T found.Nothing (address 100) 0 frame stock expected 1)
+answerOffered T frame = sayOffered (heard T found.Nothing (address 100) 0 frame 1) (frameStep T found.Nothing (address 100) 0 frame stock expected 1)
 
 unfoldable pub answer : Question → List ℕ
 answer (Received s) = admitted (admitFrame empty found.Nothing s stock expected 1) (view (groupsOf (empty .header)) s)
 answer (Deadline time) = started time .run .t0 ∷ []
 answer (Due time later) = slotNumbers (dueSlot (placed empty 7 (started time)) later)
+answer (Noisy time heard later) = answerNoisy (placed empty 7 (started time)) (commitOctets 96) heard later
 answer (Expired state sync) = answerExpired (placed empty 7 (running 1 state sync))
 answer (Confirmed sync rc counter verdict) = answerConfirmed (placed empty 7 (linked 1 sync rc)) (confirmOctets counter 32) verdict
 answer (Offered n) = answerOffered (withOpen n) (commitOctets 96)
@@ -255,4 +264,10 @@ edges =
     -- "Open 4 of 5 needs no token, 5 does": Commit and Confirm, or a 76
     ∷ case (Offered 4) (named AnswerCommit ∷ 19 ∷ 1 ∷ 0 ∷ 19 ∷ 0 ∷ 2 ∷ 0 ∷ 0 ∷ 1 ∷ [])
     ∷ case (Offered 5) (named AskToken ∷ 0 ∷ 1 ∷ 76 ∷ 19 ∷ 0 ∷ [])
+    -- request b: started at 0, a bad Commit at 30 is dropped, and t0 is due at 40 as it was
+    ∷ case (Noisy 0 30 39) (named Drop ∷ [])
+    ∷ case (Noisy 0 30 40) (named Drop ∷ 7 ∷ [])
+    -- request b: counter 65,535 with verdict 1 is no drop; nothing is sent, and Rc becomes 65,535
+    ∷ case (Confirmed 0 1 65535 1) (named HearLast ∷ 65535 ∷ 0 ∷ [])
+    ∷ case (Confirmed 0 1 65535 0) (named Drop ∷ 1 ∷ 0 ∷ [])
     ∷ []

@@ -10,7 +10,7 @@ use Rattle.rules.specs.Message.{Message}
 use Rattle.rules.specs.declared.Act.{Act}
 use Rattle.rules.specs.declared.Act.the-variants as act
 use Rattle.rules.specs.declared.Frame.{Frame}
-use Rattle.rules.specs.declared.Frames.the-variants.{One, Two}
+use Rattle.rules.specs.declared.Frames.the-variants.{None, One, Two}
 use Rattle.rules.specs.declared.Said.{Said}
 use Rattle.rules.specs.Book.{Terms, Call, factory, commitFrame, tokenRequestFrame, groupRefusalFrame, confirmFrame, dropping, answering, refusing, abandoning, forming, switching, accepting, endingLink, starting, answeringCommit, confirmingCommit, replyingToken, repeatingCommit, repeatingRefusal, confirmingAgain, resendingBoth, hearingLast, hearingAgain, perform}
 use Rattle.rules.specs.Said.{Does, sayingFrames, sayingRefused}
@@ -18,10 +18,6 @@ use Rattle.rules.specs.Said.{Does, sayingFrames, sayingRefused}
 module _ (t : Terms) (c : Call) (p : Peer) (m : Message) (a : Act) (x : Said) (left : List ℕ) where
   named : (b : Act) → a ≡ b → Does x left (perform t c p m b) → Does x left (perform t c p m a)
   named b e d = subst (λ (y : Act). Does x left (perform t c p m y)) (sym e) d
-
-  pub did-drop : a ≡ act.Drop → Does x left (dropping (t .timing) p (c .time)) → Does x left (perform t c p m a)
-  unfolding perform
-  did-drop e d = named act.Drop e d
 
   pub did-answer-commit : a ≡ act.AnswerCommit → Does x left (answeringCommit (t .timing) p (c .address) m (freshFor (t .groups) (c .fresh) (m .group)) (c .time)) → Does x left (perform t c p m a)
   unfolding perform
@@ -81,6 +77,10 @@ module _ (t : Terms) (c : Call) (p : Peer) (m : Message) (a : Act) (x : Said) (l
 
 -- the acts that leave the record as it is
 module _ (t : Terms) (c : Call) (s : List ℕ) (m : Message) (a : Act) (x : Said) where
+  pub did-drop : a ≡ act.Drop → x ≡ sayingFrames None → Does x s (perform t c (decodePeer width s) m a)
+  unfolding perform dropping answering
+  did-drop e q = named t c (decodePeer width s) m a x s act.Drop e (record { leaves = refl; says = q })
+
   pub did-refuse-group : a ≡ act.RefuseGroup → x ≡ sayingFrames (One (groupRefusalFrame (m .group))) → Does x s (perform t c (decodePeer width s) m a)
   unfolding perform answering
   did-refuse-group e q = named t c (decodePeer width s) m a x s act.RefuseGroup e (record { leaves = refl; says = q })

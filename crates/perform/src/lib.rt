@@ -315,7 +315,7 @@ pub fn perform(
     let address = g.address;
     let time = g.time;
     match act {
-        Act::Drop => acts::drop_frame(s, time),
+        Act::Drop => acts::say_frames(Frames::None),
         Act::RefuseGroup => refuse_group(v.group),
         Act::AskToken => ask_token(v.group),
         Act::NoSlot => acts::say_refused(),

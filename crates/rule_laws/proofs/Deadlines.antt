@@ -1,9 +1,17 @@
--- WHICH ACTS LEAVE THE DEADLINES as they were: those that send nothing and tell nothing, a drop apart, which sets t0 if a run is in being.
-use mathlib.Core.Path.{_≡_, refl, ap}
+-- WHICH ACTS LEAVE THE DEADLINES as they were: those that send nothing and tell nothing; and any other sends a frame, or its run or link ends.
+use mathlib.Core.Path.{_≡_, refl, sym, ap}
 use mathlib.Core.Bool.{Bool, true, false}
+use mathlib.Core.List.{List}
 use Prim.Native.Nat.{ℕ}
+use native.Mathlib.Omega.{arith}
+use native.Mathlib.Decide.{ℕ-discrete}
+use borrow.Author.Tests.{ne-eqb}
 use Rattle.octets.proofs.Scan.{clash}
+use Rattle.record.specs.declared.Run.{Run}
+use Rattle.record.specs.declared.Link.{Link}
 use Rattle.record.specs.declared.Peer.{Peer}
+use Rattle.record.specs.Layout.{noRun, noLink, noPeer}
+use Rattle.soundness.proofs.Laws.{run-unused, link-unused}
 use Rattle.rules.specs.Message.{Message}
 use Rattle.rules.specs.declared.Act.{Act}
 use Rattle.rules.specs.declared.Act.the-variants.{Drop, RefuseGroup, AskToken, NoSlot, AnswerCommit, ConfirmCommit, ReplyToken, SwitchGroup, RepeatCommit, RepeatRefusal, ResendBoth, ConfirmAgain, GiveUp, Accept, HearAgain, HearLast, EndLink, Begin}
@@ -12,18 +20,11 @@ use Rattle.rules.specs.declared.Event.the-variants as event
 use Rattle.rules.specs.declared.Frames.{Frames}
 use Rattle.rules.specs.declared.Frames.the-variants.{None, One, Two}
 use Rattle.rules.specs.Parts.{heardAgain, withRun, withLink}
-use Rattle.rules.specs.Book.{Terms, Call, Timing, Step, sending, answering, refusing, abandoning, endingLink, retransmitting, forming, starting, accepting, answeringCommit, confirmingCommit, replyingToken, repeatingCommit, repeatingRefusal, resendingBoth, confirmingAgain, hearingAgain, hearingLast, perform}
-use Rattle.rule_laws.proofs.Outcomes.{switch-outcomes, repeat-outcomes, drop-outcomes}
-
--- t0 and t1 are what they were
-pub record Still (p : Peer) (s : Step) : Type 0 where
-  pub t0 : s .peer .run .t0 ≡ p .run .t0
-  pub t1 : s .peer .link .t1 ≡ p .link .t1
-
--- t1 is what it was, and without a run t0 too
-pub record StillIdle (p : Peer) (s : Step) : Type 0 where
-  pub t0 : p .run .state ≡ 0 → s .peer .run .t0 ≡ p .run .t0
-  pub t1 : s .peer .link .t1 ≡ p .link .t1
+use Rattle.rules.specs.Book.{hasRun, hasLink, Terms, Call, Timing, Step, sending, answering, dropping, refusing, abandoning, endingLink, retransmitting, forming, starting, accepting, answeringCommit, confirmingCommit, replyingToken, repeatingCommit, repeatingRefusal, resendingBoth, confirmingAgain, hearingAgain, hearingLast, perform}
+use Rattle.rules.specs.Asked.{Asked, refuse-group, ask-token, no-slot, begin, answer-commit, confirm-commit, reply-token, switch-group, repeat-commit, repeat-refusal, resend-both, confirm-again, give-up, accept, hear-again, hear-last, end-link, drop}
+use Rattle.rule_laws.specs.Deadlines.{Still, Ends, run-ends, link-ends}
+use Rattle.rule_laws.proofs.Outcomes.{switch-outcomes, repeat-outcomes, settle-outcomes}
+use Rattle.rule_laws.proofs.Keeps.{Kept, parts}
 
 -- nothing is sent and nothing is told: no run or link has ended, and none has begun
 pub record Quiet (s : Step) : Type 0 where
@@ -59,33 +60,90 @@ module _ (t : Terms) (c : Call) (p : Peer) (m : Message) where
   switch-tells =
       switch-outcomes (λ (s : Step). Quiet s → ⊥) (t .timing) p (t .groups) (c .fresh) (c .time) (λ i g h q. sent _ refl (q .frames)) (λ h q. told _ refl (q .event))
 
-  -- an act that sends nothing and tells nothing leaves both deadlines, a drop apart
-  pub still-act : (a : Act) → (a ≡ Drop → ⊥) → Quiet (perform t c p m a) → Still p (perform t c p m a)
-  unfolding perform answering refusing sending forming abandoning accepting endingLink starting withLink heardAgain answeringCommit confirmingCommit replyingToken repeatingCommit repeatingRefusal resendingBoth confirmingAgain hearingAgain hearingLast
-  still-act Drop d q = absurd (d refl)
-  still-act RefuseGroup d q = record { t0 = refl; t1 = refl }
-  still-act AskToken d q = record { t0 = refl; t1 = refl }
-  still-act NoSlot d q = record { t0 = refl; t1 = refl }
-  still-act AnswerCommit d q = absurd (sent _ refl (q .frames))
-  still-act ConfirmCommit d q = absurd (sent _ refl (q .frames))
-  still-act ReplyToken d q = absurd (sent _ refl (q .frames))
-  still-act SwitchGroup d q = absurd (switch-tells q)
-  still-act RepeatCommit d q = absurd (repeat-tells (t .timing) p _ _ (c .time) (sent _ refl) q)
-  still-act RepeatRefusal d q = absurd (repeat-tells (t .timing) p _ _ (c .time) (sent _ refl) q)
-  still-act ResendBoth d q = absurd (sent _ refl (q .frames))
-  still-act ConfirmAgain d q = absurd (repeat-tells (t .timing) p _ _ (c .time) (sent _ refl) q)
-  still-act GiveUp d q = absurd (told _ refl (q .event))
-  still-act Accept d q = absurd (told _ refl (q .event))
-  still-act HearAgain d q = record { t0 = refl; t1 = refl }
-  still-act HearLast d q = record { t0 = refl; t1 = refl }
-  still-act EndLink d q = absurd (told _ refl (q .event))
-  still-act Begin d q = absurd (sent _ refl (q .frames))
+  -- an act that sends nothing and tells nothing leaves both deadlines
+  pub still-act : (a : Act) → Quiet (perform t c p m a) → Still p (perform t c p m a .peer)
+  unfolding perform dropping answering refusing sending forming abandoning accepting endingLink starting withLink heardAgain answeringCommit confirmingCommit replyingToken repeatingCommit repeatingRefusal resendingBoth confirmingAgain hearingAgain hearingLast
+  still-act Drop q = record { t0 = refl; t1 = refl }
+  still-act RefuseGroup q = record { t0 = refl; t1 = refl }
+  still-act AskToken q = record { t0 = refl; t1 = refl }
+  still-act NoSlot q = record { t0 = refl; t1 = refl }
+  still-act AnswerCommit q = absurd (sent _ refl (q .frames))
+  still-act ConfirmCommit q = absurd (sent _ refl (q .frames))
+  still-act ReplyToken q = absurd (sent _ refl (q .frames))
+  still-act SwitchGroup q = absurd (switch-tells q)
+  still-act RepeatCommit q = absurd (repeat-tells (t .timing) p _ _ (c .time) (sent _ refl) q)
+  still-act RepeatRefusal q = absurd (repeat-tells (t .timing) p _ _ (c .time) (sent _ refl) q)
+  still-act ResendBoth q = absurd (sent _ refl (q .frames))
+  still-act ConfirmAgain q = absurd (repeat-tells (t .timing) p _ _ (c .time) (sent _ refl) q)
+  still-act GiveUp q = absurd (told _ refl (q .event))
+  still-act Accept q = absurd (told _ refl (q .event))
+  still-act HearAgain q = record { t0 = refl; t1 = refl }
+  still-act HearLast q = record { t0 = refl; t1 = refl }
+  still-act EndLink q = absurd (told _ refl (q .event))
+  still-act Begin q = absurd (sent _ refl (q .frames))
 
-  -- a drop leaves t1, and without a run t0 too
-  pub drop-still : StillIdle p (perform t c p m Drop)
-  unfolding perform withRun
-  drop-still =
-      record {
-        t0 = λ e. drop-outcomes (λ (q : Peer). q .run .t0 ≡ p .run .t0) (t .timing) p (c .time) (λ z. refl) (λ d. absurd (d e));
-        t1 = drop-outcomes (λ (q : Peer). q .link .t1 ≡ p .link .t1) (t .timing) p (c .time) (λ z. refl) (λ d. refl);
-      }
+-- ---- when they move
+
+-- both deadlines stay, or a frame is sent, or the record's run or link ends
+pub data Moves (p : Peer) (s : Step) : Type 0 where
+  still : Still p (s .peer) → Moves p s
+  has-sent : (s .frames ≡ None → ⊥) → Moves p s
+  has-ended : Ends p (s .peer) → Moves p s
+
+-- a run that is given up, or accepted, was in being and is no more
+abandon-moves : (p : Peer) → (p .run .state ≡ 0 → ⊥) → Moves p (abandoning p)
+unfolding abandoning withRun noRun noPeer
+abandon-moves p d =
+    has-ended (run-ends (rw (ne-eqb _ _ d) refl) (settle-outcomes (λ (q : Peer). hasRun q ≡ false) (withRun p noRun) (λ x y. refl) (λ z. refl)))
+
+accept-moves : (p : Peer) (counter time : ℕ) → (p .run .state ≡ 0 → ⊥) → Moves p (accepting p counter time)
+unfolding accepting noRun
+accept-moves p counter time d = has-ended (run-ends (rw (ne-eqb _ _ d) refl) refl)
+
+repeat-moves : (τ : Timing) (p : Peer) (sc : ℕ) (fs : Frames) (time : ℕ) → (p .run .state ≡ 0 → ⊥) → (fs ≡ None → ⊥) → Moves p (retransmitting τ p sc fs time)
+unfolding sending
+repeat-moves τ p sc fs time d f = repeat-outcomes (Moves p) τ p sc fs time (λ h. abandon-moves p d) (λ h. has-sent f)
+
+-- a link that ends was in being; where none was, a sound record stays as it is
+module _ (own gs a : List ℕ) (p : Peer) (k : Kept own gs a p) where
+  no-run-t0 : p .run .state ≡ 0 → p .run .t0 ≡ 0
+  unfolding noRun
+  no-run-t0 e = let q = parts own gs a p k in ap (λ (r : Run). r .t0) (run-unused gs (p .run) (q .fitRun .shape) (q .run) e)
+
+  no-link-t1 : p .link .finished ≡ 0 → p .link .t1 ≡ 0
+  unfolding noLink
+  no-link-t1 e = let q = parts own gs a p k in ap (λ (l : Link). l .t1) (link-unused gs (p .link) (q .fitLink .shape) (q .link) e)
+
+  end-moves : Moves p (endingLink p)
+  unfolding endingLink withLink noLink noRun noPeer
+  end-moves = elim (ℕ-discrete (p .link .finished) 0) [
+    | yes e ↦ still (record {
+      t0 = settle-outcomes (λ (q : Peer). q .run .t0 ≡ p .run .t0) (withLink p noLink) (λ x y. sym (no-run-t0 x)) (λ d. refl);
+      t1 = settle-outcomes (λ (q : Peer). q .link .t1 ≡ p .link .t1) (withLink p noLink) (λ x y. sym (no-link-t1 e)) (λ d. sym (no-link-t1 e));
+    })
+    | no d ↦ has-ended (link-ends (rw (ne-eqb _ _ d) refl) (settle-outcomes (λ (q : Peer). hasLink q ≡ false) (withLink p noLink) (λ x y. refl) (λ z. refl)))
+  ]
+
+module _ (t : Terms) (c : Call) (p : Peer) (m : Message) (k : Kept (t .own) (t .groups) (c .address) p) where
+  -- EVERY ACT leaves both deadlines, sends a frame, or its run or link ends
+  pub act-moves : {a : Act} → Asked t c p m a → Moves p (perform t c p m a)
+  unfolding perform dropping answering refusing sending forming starting withLink heardAgain answeringCommit confirmingCommit replyingToken repeatingCommit repeatingRefusal resendingBoth confirmingAgain hearingAgain hearingLast
+  act-moves (drop d) = still (record { t0 = refl; t1 = refl })
+  act-moves (refuse-group r z l) = still (record { t0 = refl; t1 = refl })
+  act-moves (ask-token r z l) = still (record { t0 = refl; t1 = refl })
+  act-moves (no-slot r e) = still (record { t0 = refl; t1 = refl })
+  act-moves (begin r e) = has-sent (sent _ refl)
+  act-moves (answer-commit d r o e) = has-sent (sent _ refl)
+  act-moves (confirm-commit s o g e) = has-sent (sent _ refl)
+  act-moves (reply-token s z g) = has-sent (sent _ refl)
+  act-moves (switch-group s z g) =
+      switch-outcomes (Moves p) (t .timing) p (t .groups) (c .fresh) (c .time) (λ i g h. has-sent (sent _ refl)) (λ h. abandon-moves p (λ q. omega arith))
+  act-moves (repeat-commit s z) = repeat-moves (t .timing) p _ _ (c .time) (λ q. omega arith) (sent _ refl)
+  act-moves (repeat-refusal s z l) = repeat-moves (t .timing) p _ _ (c .time) (λ q. omega arith) (sent _ refl)
+  act-moves (resend-both s z l g) = has-sent (sent _ refl)
+  act-moves (confirm-again s z) = repeat-moves (t .timing) p _ _ (c .time) (λ q. omega arith) (sent _ refl)
+  act-moves (give-up s z e) = abandon-moves p (λ q. omega arith)
+  act-moves (accept s d z v) = accept-moves p _ (c .time) (λ q. omega arith)
+  act-moves (hear-again r n l i v) = still (record { t0 = refl; t1 = refl })
+  act-moves (hear-last r n l i v) = still (record { t0 = refl; t1 = refl })
+  act-moves end-link = end-moves (t .own) (t .groups) (c .address) p k

@@ -31,9 +31,9 @@ use Rattle.soundness.proofs.Laws.{Token, Committed, Confirmed, Finished, no-run
 use Rattle.rules.specs.declared.Frames.{Frames}
 use Rattle.rules.specs.declared.Frames.the-variants.{One}
 use Rattle.rules.specs.Parts.{counting, withToken, switched, heardAgain, withRun, withLink}
-use Rattle.rules.specs.Book.{Timing, Step, commitFrame, deadline, delay, setT0, sending, answering, settled, abandoning, retransmitting, dropping, supersede, formedRun, forming, linkOfRun, accepting, endingLink, startedRun, starting, switching, replyingToken}
+use Rattle.rules.specs.Book.{Timing, Step, commitFrame, deadline, delay, setT0, sending, answering, settled, abandoning, retransmitting, supersede, formedRun, forming, linkOfRun, accepting, endingLink, startedRun, starting, switching, replyingToken}
 use Rattle.rules.specs.Message.{Message}
-use Rattle.rule_laws.proofs.Outcomes.{whether, switch-outcomes, repeat-outcomes, drop-outcomes, settle-outcomes}
+use Rattle.rule_laws.proofs.Outcomes.{whether, switch-outcomes, repeat-outcomes, settle-outcomes}
 
 -- ---- what is handed over
 
@@ -605,17 +605,6 @@ module _ (own gs a : List ℕ) where
       record {
         kept = seated own gs a _ (place-of own gs a p k u) u (k .place (λ z. omega arith))
             (record { run = t0-form gs τ r time d ok; link = c .link; fitRun = t0-fits τ r time f; fitLink = c .fitLink }) (λ z. d (z .0));
-      }
-
-  pub drop-keeps : (τ : Timing) (p : Peer) (time : ℕ) → Kept own gs a p → Keeps own gs a (dropping τ p time)
-  unfolding withRun setT0
-  drop-keeps τ p time k =
-      let c = parts own gs a p k in
-      record {
-        kept = drop-outcomes (Kept own gs a) τ p time (λ e. k)
-            (λ d. let u = run-used own gs a p k d in
-            seated own gs a (withRun p (setT0 τ (p .run) time)) (place-of own gs a p k u) u (k .place (λ z. omega arith))
-            (record { run = t0-form gs τ (p .run) time d (c .run); link = c .link; fitRun = t0-fits τ (p .run) time (c .fitRun); fitLink = c .fitLink }) (λ z. d (z .0)));
       }
 
   pub answer-keeps : (p : Peer) (fs : Frames) → Kept own gs a p → Keeps own gs a (answering p fs)

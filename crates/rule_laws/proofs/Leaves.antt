@@ -25,7 +25,7 @@ use Rattle.rules.specs.Parts as changed
 use Rattle.rules.specs.Book.{_is_, holds, Timing, Terms, Call, Step, silence, commitFrame, deadline, delay, t0Due, setT0, sending, answering, refusing, settled, abandoning, endingLink, retransmitting, dropping, supersede, formedRun, forming, startedRun, starting, linkOfRun, accepting, answeringCommit, confirmingCommit, replyingToken, repeatingCommit, repeatingRefusal, resendingBoth, confirmingAgain, hearingAgain, hearingLast, perform, startAct, clockAct, commitAct, confirmAct, onFrame, onClock, onStart}
 use Rattle.rules.specs.Asked.{Asked, refuse-group, ask-token, no-slot, begin, answer-commit, confirm-commit, reply-token, switch-group, repeat-commit, repeat-refusal, resend-both, confirm-again, give-up, accept, hear-again, hear-last, end-link, drop}
 use Rattle.rules.proofs.Ladders.{commit-asked, confirm-asked, frame-asked, clock-asked}
-use Rattle.rule_laws.proofs.Outcomes.{whether, switch-outcomes, repeat-outcomes, drop-outcomes, settle-outcomes}
+use Rattle.rule_laws.proofs.Outcomes.{whether, switch-outcomes, repeat-outcomes, settle-outcomes}
 use Rattle.rule_laws.proofs.Keeps.{Kept, parts}
 
 -- ---- the rows
@@ -55,17 +55,12 @@ pub record SameRun (r x : Run) : Type 0 where
 pub record T0Set (τ : Timing) (time : ℕ) (r : Run) : Type 0 where
   pub t0 : r .t0 ≡ deadline time (delay τ (r .sync))
 
--- a drop sets t0 if a run is in being, and changes nothing else
-pub record Dropped (τ : Timing) (time : ℕ) (p : Peer) (s : Step) : Type 0 where
+-- a drop changes nothing, sends nothing and tells nothing
+pub record Dropped (p : Peer) (s : Step) : Type 0 where
   pub event : s .event ≡ event.None
   pub frames : s .frames ≡ None
   pub afresh : s .afresh ≡ 0
-  pub around : AroundRun p (s .peer)
-  pub run : SameRun (p .run) (s .peer .run)
-  pub sync : s .peer .run .sync ≡ p .run .sync
-  pub sc : s .peer .run .sc ≡ p .run .sc
-  pub set : (p .run .state ≡ 0 → ⊥) → T0Set τ time (s .peer .run)
-  pub t0 : p .run .state ≡ 0 → s .peer .run .t0 ≡ p .run .t0
+  pub peer : s .peer ≡ p
 
 -- an answer without a run changes nothing
 pub record Answered (p : Peer) (s : Step) : Type 0 where
@@ -198,7 +193,7 @@ pub record Again (τ : Timing) (p : Peer) (s : Step) : Type 0 where
   pub t1 : s .peer .link .t1 ≡ p .link .t1
 
 pub data Did (τ : Timing) (time : ℕ) (p : Peer) (s : Step) : Type 0 where
-  dropped : Dropped τ time p s → Did τ time p s
+  dropped : Dropped p s → Did τ time p s
   answered : Answered p s → Did τ time p s
   refused : Refused p s → Did τ time p s
   replied : Replied τ time p s → Did τ time p s
@@ -212,15 +207,6 @@ pub data Did (τ : Timing) (time : ℕ) (p : Peer) (s : Step) : Type 0 where
   again : Again τ p s → Did τ time p s
 
 -- ---- the acts have their rows
-
--- but for t0 the record is as it was
-record Still (τ : Timing) (time : ℕ) (p q : Peer) : Type 0 where
-  around : AroundRun p q
-  run : SameRun (p .run) (q .run)
-  sync : q .run .sync ≡ p .run .sync
-  sc : q .run .sc ≡ p .run .sc
-  set : (p .run .state ≡ 0 → ⊥) → T0Set τ time (q .run)
-  t0 : p .run .state ≡ 0 → q .run .t0 ≡ p .run .t0
 
 -- a mark leaves Sync and t1
 supersede-sync : (l : Link) → supersede l .sync ≡ l .sync
@@ -241,37 +227,9 @@ unfolding withLink
 ended-t0 p d = settle-outcomes (λ (q : Peer). q .run .t0 ≡ p .run .t0) (withLink p noLink) (λ x y. absurd (d x)) (λ z. refl)
 
 module _ (τ : Timing) (time : ℕ) (p : Peer) where
-  idle-still : p .run .state ≡ 0 → Still τ time p p
-  idle-still e =
-      record {
-        around = record { used = refl; address = refl; link = refl };
-        run = record { state = refl; rejected = refl; group = refl; toklen = refl; own = refl; peer = refl; token = refl };
-        sync = refl;
-        sc = refl;
-        set = λ d. absurd (d e);
-        t0 = λ z. refl;
-      }
-
-  later-still : (p .run .state ≡ 0 → ⊥) → Still τ time p (withRun p (setT0 τ (p .run) time))
-  unfolding withRun setT0
-  later-still d =
-      record {
-        around = record { used = refl; address = refl; link = refl };
-        run = record { state = refl; rejected = refl; group = refl; toklen = refl; own = refl; peer = refl; token = refl };
-        sync = refl;
-        sc = refl;
-        set = λ z. record { t0 = refl };
-        t0 = λ z. absurd (d z);
-      }
-
-  drop-still : Still τ time p (dropping τ p time .peer)
-  drop-still = drop-outcomes (Still τ time p) τ p time (λ e. idle-still e) (λ d. later-still d)
-
-  drop-row : Did τ time p (dropping τ p time)
-  unfolding dropping
-  drop-row =
-      let q = drop-still in
-      dropped (record { event = refl; frames = refl; afresh = refl; around = q .around; run = q .run; sync = q .sync; sc = q .sc; set = q .set; t0 = q .t0 })
+  drop-row : Did τ time p (dropping p)
+  unfolding dropping answering
+  drop-row = dropped (record { event = refl; frames = refl; afresh = refl; peer = refl })
 
   answer-row : (fs : Frames) → Did τ time p (answering p fs)
   unfolding answering
@@ -414,7 +372,7 @@ module _ (τ : Timing) (time : ℕ) (p : Peer) where
 module _ (t : Terms) (c : Call) (p : Peer) (m : Message) where
   pub act-did : {a : Act} → Asked t c p m a → Did (t .timing) (c .time) p (perform t c p m a)
   unfolding perform answeringCommit confirmingCommit repeatingCommit repeatingRefusal resendingBoth confirmingAgain hearingAgain hearingLast
-  act-did drop = drop-row (t .timing) (c .time) p
+  act-did (drop d) = drop-row (t .timing) (c .time) p
   act-did (refuse-group r z l) = answer-row (t .timing) (c .time) p _
   act-did (ask-token r z l) = answer-row (t .timing) (c .time) p _
   act-did (no-slot r e) = refuse-row (t .timing) (c .time) p
@@ -435,8 +393,8 @@ module _ (t : Terms) (c : Call) (p : Peer) (m : Message) where
   act-did (hear-last r n l i v) = hear-row (t .timing) (c .time) p (m .counter) (p .link .sync) None l (omega arith)
   act-did end-link = end-row (t .timing) (c .time) p
 
-  pub commit-did : Did (t .timing) (c .time) p (perform t c p m (commitAct t c p m))
-  commit-did = act-did (commit-asked t c p m)
+  pub commit-did : m .sequence ≡ 1 → Did (t .timing) (c .time) p (perform t c p m (commitAct t c p m))
+  commit-did f = act-did (commit-asked t c p m f)
 
   pub confirm-did : (m .sequence ≡ 1 → ⊥) → Did (t .timing) (c .time) p (perform t c p m (confirmAct t c p m))
   confirm-did d = act-did (confirm-asked t c p m d)
@@ -483,7 +441,7 @@ module _ (τ : Timing) (time : ℕ) (p : Peer) (s : Step) where
   -- Sync never passes the limit by more than one: 6 at the factory's 5
   pub sync-bound : Did τ time p s → p .run .sync ≤ τ .limit + 1 → s .peer .run .sync ≤ τ .limit + 1
   unfolding withRun withLink noRun
-  sync-bound (dropped r) h = omega (arith, r .sync)
+  sync-bound (dropped r) h = rw (r .peer) h
   sync-bound (answered r) h = rw (r .peer) h
   sync-bound (refused r) h = rw (r .peer) h
   sync-bound (replied r) h = omega (arith, r .sync)
@@ -498,7 +456,7 @@ module _ (τ : Timing) (time : ℕ) (p : Peer) (s : Step) where
 
   pub link-sync-bound : Did τ time p s → p .run .sync ≤ τ .limit + 1 → p .link .sync ≤ τ .limit + 1 → s .peer .link .sync ≤ τ .limit + 1
   unfolding withRun withLink noLink
-  link-sync-bound (dropped r) g h = rw (r .around .link) h
+  link-sync-bound (dropped r) g h = rw (r .peer) h
   link-sync-bound (answered r) g h = rw (r .peer) h
   link-sync-bound (refused r) g h = rw (r .peer) h
   link-sync-bound (replied r) g h = rw (r .around .link) h
@@ -529,10 +487,9 @@ pub record Stands (p : Peer) (s : Step) : Type 0 where
   pub stands : SamePair (p .run) (s .peer .run) ⊎ ((s .event ≡ event.Abandoned) ⊎ (s .event ≡ event.Accepted))
 
 module _ (p : Peer) where
-  drop-stands : (τ : Timing) (time : ℕ) → Stands p (dropping τ p time)
-  drop-stands τ time =
-      let q = drop-still τ time p in
-      record { stands = inl (record { state = q .run .state; group = q .run .group; own = q .run .own; peer = q .run .peer }) }
+  drop-stands : Stands p (dropping p)
+  unfolding dropping answering
+  drop-stands = record { stands = inl (record { state = refl; group = refl; own = refl; peer = refl }) }
 
   abandon-stands : Stands p (abandoning p)
   unfolding abandoning
@@ -558,7 +515,7 @@ module _ (t : Terms) (c : Call) (p : Peer) (m : Message) (h : p .run .state ≡ 
   -- "the stored peer commit stays", whatever act comes
   pub act-stands : {a : Act} → Asked t c p m a → Stands p (perform t c p m a)
   unfolding perform resendingBoth confirmingAgain
-  act-stands drop = drop-stands p (t .timing) (c .time)
+  act-stands (drop d) = drop-stands p
   act-stands (refuse-group r z l) = absurd (r .not-confirmed h)
   act-stands (ask-token r z l) = absurd (r .not-confirmed h)
   act-stands (no-slot r e) = absurd (r .not-confirmed h)
@@ -577,8 +534,8 @@ module _ (t : Terms) (c : Call) (p : Peer) (m : Message) (h : p .run .state ≡ 
   act-stands (hear-last r n l i v) = absurd (r .not-confirmed h)
   act-stands end-link = end-stands p h
 
-  pub commit-stands : Stands p (perform t c p m (commitAct t c p m))
-  commit-stands = act-stands (commit-asked t c p m)
+  pub commit-stands : m .sequence ≡ 1 → Stands p (perform t c p m (commitAct t c p m))
+  commit-stands f = act-stands (commit-asked t c p m f)
 
   pub confirm-stands : (m .sequence ≡ 1 → ⊥) → Stands p (perform t c p m (confirmAct t c p m))
   confirm-stands d = act-stands (confirm-asked t c p m d)
@@ -606,7 +563,7 @@ abandoned-link p = settle-outcomes (λ (q : Peer). (q ≡ noPeer) ⊎ (q .link �
 
 module _ (τ : Timing) (time : ℕ) (p : Peer) (s : Step) where
   pub link-did : Did τ time p s → LinkDid τ time p s
-  link-did (dropped r) = stays (record { stays = inl (r .around .link) })
+  link-did (dropped r) = stays (record { stays = inl (ap (λ (q : Peer). q .link) (r .peer)) })
   link-did (answered r) = stays (record { stays = inl (ap (λ (q : Peer). q .link) (r .peer)) })
   link-did (refused r) = stays (record { stays = inl (ap (λ (q : Peer). q .link) (r .peer)) })
   link-did (replied r) = stays (record { stays = inl (r .around .link) })

@@ -12,8 +12,8 @@ use Rattle.record.specs.declared.Peer.{Peer}
 use Rattle.record.specs.Layout.{noPeer}
 use Rattle.rules.specs.declared.Frames.{Frames}
 use Rattle.rules.specs.declared.Frames.the-variants.{One}
-use Rattle.rules.specs.Parts.{withRun, counting, switched}
-use Rattle.rules.specs.Book.{_is_, _above_, Timing, Step, commitFrame, setT0, sending, settled, abandoning, retransmitting, dropping, switchingTo, switching}
+use Rattle.rules.specs.Parts.{counting, switched}
+use Rattle.rules.specs.Book.{_is_, _above_, Timing, Step, commitFrame, sending, settled, abandoning, retransmitting, switchingTo, switching}
 
 pub whether : {A : Type 0} (P : A → Type 0) (b : Bool) (x y : A) → (b ≡ true → P x) → (b ≡ false → P y) → P (if b then x else y)
 whether P true x y f g = f refl
@@ -42,12 +42,6 @@ unfolding retransmitting
 repeat-outcomes P τ p sc fs time f g =
     whether P (p .run .sync above τ .limit) (abandoning p) (sending τ p (counting (p .run) (p .run .sync + 1) sc) fs 0 time)
     (λ e. f (ltb-true _ _ e)) (λ e. g (ltb-false _ _ e))
-
-pub drop-outcomes : (P : Peer → Type 0) (τ : Timing) (p : Peer) (time : ℕ) →
-    (p .run .state ≡ 0 → P p) → ((p .run .state ≡ 0 → ⊥) → P (withRun p (setT0 τ (p .run) time))) → P (dropping τ p time .peer)
-unfolding dropping
-drop-outcomes P τ p time f g =
-    whether P (p .run .state is 0) p (withRun p (setT0 τ (p .run) time)) (λ e. f (eqb-true _ _ e)) (λ e. g (eqb-false _ _ e))
 
 pub settle-outcomes : (P : Peer → Type 0) (p : Peer) →
     (p .run .state ≡ 0 → p .link .finished ≡ 0 → P noPeer) → (((p .run .state ≡ 0) × (p .link .finished ≡ 0) → ⊥) → P p) → P (settled p)

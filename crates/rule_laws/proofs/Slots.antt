@@ -16,7 +16,7 @@ use Rattle.rules.specs.Book.{_is_, holds, Timing, Terms, Call, Step, silence, t
 use Rattle.rules.specs.Asked.{Asked, refuse-group, ask-token, no-slot, begin, answer-commit, confirm-commit, reply-token, switch-group, repeat-commit, repeat-refusal, resend-both, confirm-again, give-up, accept, hear-again, hear-last, end-link, drop}
 use Rattle.rules.proofs.Ladders.{frame-asked}
 use Rattle.rule_laws.specs.Slots.{isNoSlot}
-use Rattle.rule_laws.proofs.Outcomes.{switch-outcomes, repeat-outcomes, drop-outcomes}
+use Rattle.rule_laws.proofs.Outcomes.{switch-outcomes, repeat-outcomes}
 
 abbrev Seated : Step → Type 0
 Seated s = s .refused ≡ false
@@ -63,7 +63,7 @@ module _ (t : Terms) (c : Call) (p : Peer) (m : Message) where
 
   -- with a slot
   pub seated-act : {a : Act} → t .full ≡ false → Asked t c p m a → isNoSlot a ≡ false
-  seated-act f drop = refl
+  seated-act f (drop d) = refl
   seated-act f (refuse-group r z l) = refl
   seated-act f (ask-token r z l) = refl
   seated-act f (no-slot r e) = absurd (clash e f)
@@ -84,8 +84,8 @@ module _ (t : Terms) (c : Call) (p : Peer) (m : Message) where
 
   -- without a slot: an act that is not refused leaves the free record free
   pub unseated-act : {a : Act} → p ≡ noPeer → Asked t c p m a → t .full ≡ true → perform t c p m a .refused ≡ false → perform t c p m a .peer ≡ noPeer
-  unfolding perform answering refusing
-  unseated-act e drop f u = drop-outcomes (λ (q : Peer). q ≡ noPeer) (t .timing) p (c .time) (λ z. e) (λ d. absurd (d (free-run p e)))
+  unfolding perform dropping answering refusing
+  unseated-act e (drop d) f u = e
   unseated-act e (refuse-group r z l) f u = e
   unseated-act e (ask-token r z l) f u = e
   unseated-act e (no-slot r z) f u = e

@@ -17,11 +17,11 @@ use Rattle.soundness.proofs.Laws.{run-states, run-is-committed, link-is-finishe
 use Rattle.rules.specs.Message.{Message}
 use Rattle.rules.specs.declared.Act.{Act}
 use Rattle.rules.specs.declared.Act.the-variants as act
-use Rattle.rules.specs.Book.{_is_, holds, Terms, Call, Step, silence, t0Due, perform, refusing, answeringCommit, confirmingCommit, repeatingCommit, repeatingRefusal, confirmingAgain, resendingBoth, hearingAgain, hearingLast, commitAct, confirmAct, clockAct, onFrame, onClock, onStart}
+use Rattle.rules.specs.Book.{_is_, holds, Terms, Call, Step, silence, t0Due, perform, dropping, refusing, answeringCommit, confirmingCommit, repeatingCommit, repeatingRefusal, confirmingAgain, resendingBoth, hearingAgain, hearingLast, commitAct, confirmAct, clockAct, onFrame, onClock, onStart}
 use Rattle.rules.specs.Asked.{NoRun, Asked, refuse-group, ask-token, no-slot, begin, answer-commit, confirm-commit, reply-token, switch-group, repeat-commit, repeat-refusal, resend-both, confirm-again, give-up, accept, hear-again, hear-last, end-link, drop}
 use Rattle.rules.proofs.Ladders.{start-asked, commit-asked, confirm-asked, frame-asked, clock-asked}
 use Rattle.rule_laws.proofs.Outcomes.{repeat-outcomes}
-use Rattle.rule_laws.proofs.Keeps.{Place, Lists, Stored, Stock, Heard, Kept, Keeps, parts, listed-at, fresh-stored, heard-stored, drop-keeps, answer-keeps, abandon-keeps, end-keeps, form-keeps, accept-keeps, hear-keeps, repeat-keeps, raised-keeps, start-keeps, switch-keeps, reply-keeps}
+use Rattle.rule_laws.proofs.Keeps.{Place, Lists, Stored, Stock, Heard, Kept, Keeps, parts, listed-at, fresh-stored, heard-stored, answer-keeps, abandon-keeps, end-keeps, form-keeps, accept-keeps, hear-keeps, repeat-keeps, raised-keeps, start-keeps, switch-keeps, reply-keeps}
 
 bytes-zeros : (n : ℕ) → Bytes (replicate n 0)
 bytes-zeros zero i = lit< tt
@@ -70,8 +70,8 @@ module _ (t : Terms) (c : Call) (p : Peer) (m : Message) (h : Handed t c m) (k :
 
   -- EVERY ACT keeps a record sound
   pub sound-act : {a : Act} → (usesFresh a ≡ true → Stock (t .groups) (c .fresh)) → Asked t c p m a → Sound (perform t c p m a)
-  unfolding perform refusing answeringCommit confirmingCommit repeatingCommit repeatingRefusal confirmingAgain resendingBoth hearingAgain hearingLast
-  sound-act S drop = drop-keeps _ _ _ (t .timing) p (c .time) k
+  unfolding perform dropping refusing answeringCommit confirmingCommit repeatingCommit repeatingRefusal confirmingAgain resendingBoth hearingAgain hearingLast
+  sound-act S (drop d) = answer-keeps _ _ _ p _ k
   sound-act S (refuse-group r z l) = answer-keeps _ _ _ p _ k
   sound-act S (ask-token r z l) = answer-keeps _ _ _ p _ k
   sound-act S (no-slot r e) = record { kept = k }
@@ -99,8 +99,8 @@ module _ (t : Terms) (c : Call) (p : Peer) (m : Message) (h : Handed t c m) (k :
 
   -- whatever Commit, Confirm or frame comes
   module _ (S : Stock (t .groups) (c .fresh)) where
-    pub commit-keeps : Sound (perform t c p m (commitAct t c p m))
-    commit-keeps = sound-act (λ e. S) (commit-asked t c p m)
+    pub commit-keeps : m .sequence ≡ 1 → Sound (perform t c p m (commitAct t c p m))
+    commit-keeps f = sound-act (λ e. S) (commit-asked t c p m f)
 
     pub confirm-keeps : (m .sequence ≡ 1 → ⊥) → Sound (perform t c p m (confirmAct t c p m))
     confirm-keeps d = sound-act (λ e. S) (confirm-asked t c p m d)

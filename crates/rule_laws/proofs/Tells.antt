@@ -69,7 +69,7 @@ no-run p (inr (inr e)) r = absurd (r .not-confirmed e)
 module _ (t : Terms) (c : Call) (p : Peer) (m : Message) (h : m .group < 65536) (states : States p) where
   pub truthful-act : {a : Act} → Asked t c p m a → Truthful (perform t c p m a)
   unfolding perform dropping answering refusing abandoning endingLink formedRun forming setT0 startedRun starting accepting answeringCommit confirmingCommit replyingToken repeatingCommit repeatingRefusal confirmingAgain resendingBoth hearingLast hearingAgain counting withToken switched heardAgain withLink
-  truthful-act drop = record { tells = tell-none }
+  truthful-act (drop d) = record { tells = tell-none }
   truthful-act (refuse-group r z l) = record { tells = tell-one (a-refusal h) }
   truthful-act (ask-token r z l) = record { tells = tell-one (a-request h) }
   truthful-act (no-slot r e) = record { tells = tell-none }

@@ -336,16 +336,9 @@ retransmitting τ p sc fs time =
     if p .run .sync above τ .limit then abandoning p
     else sending τ p (counting (p .run) (p .run .sync + 1) sc) fs 0 time
 
--- "Drop": send nothing; with a run in being, set t0.
-unfoldable pub dropping : Timing → Peer → ℕ → Step
-dropping τ p time =
-    record {
-      peer = if p .run .state is 0 then p else withRun p (setT0 τ (p .run) time);
-      event = event.None;
-      frames = None;
-      afresh = 0;
-      refused = false;
-    }
+-- "Drop": send nothing; "a dropped frame changes nothing in the table" (request b).
+unfoldable pub dropping : Peer → Step
+dropping p = answering p None
 
 -- a finished link's mark becomes 1
 unfoldable pub supersede : Link → Link
@@ -489,7 +482,7 @@ hearingAgain p counter = answering (withLink p (heardAgain (p .link) counter (p 
 -- ---- each act by its name
 
 unfoldable pub perform : Terms → Call → Peer → Message → Act → Step
-perform t c p m Drop = dropping (t .timing) p (c .time)  -- "Drop": send nothing; with a run in being, set t0
+perform t c p m Drop = dropping p  -- "Drop": send nothing, change nothing
 perform t c p m RefuseGroup = answering p (One (groupRefusalFrame (m .group)))  -- "send 77 with it"
 perform t c p m AskToken = answering p (One (tokenRequestFrame (m .group)))  -- "send 76 with group and expected token"
 perform t c p m NoSlot = refusing p  -- "no slot, refuse"

@@ -6,8 +6,8 @@ use Rattle.perform.proofs.perform.Tie as tie
 enum-told : tie.Need-enum-told
 enum-told c = search needs
 
-drop-frame-requires : tie.Need-drop-frame-requires
-drop-frame-requires c κs = search needs
+say-frames-requires : tie.Need-say-frames-requires
+say-frames-requires c κs = search needs
 
 enum-told-2 : tie.Need-enum-told-2
 enum-told-2 c = search needs
@@ -111,11 +111,8 @@ enum-told-18 c = search needs
 begin-requires : tie.Need-begin-requires
 begin-requires c κs = search needs
 
-same-length : tie.Need-same-length
-same-length c = search needs
-
 returns : tie.Need-returns
-returns c = did-drop _ _ _ _ _ _ _ (c .before .before .before .before .enum-told .given .1) (c .before .before .drop-frame .ensures)
+returns c = did-drop _ _ _ _ _ _ (c .before .enum-told .given .1) (c .say-frames .ensures)
 
 returns-2 : tie.Need-returns-2
 returns-2 c = did-refuse-group _ _ _ _ _ _ (c .before .enum-told2 .given .1) (c .refuse-group .ensures)
@@ -126,86 +123,86 @@ returns-3 c = did-ask-token _ _ _ _ _ _ (c .before .enum-told3 .given .1) (c .as
 returns-4 : tie.Need-returns-4
 returns-4 c = did-no-slot _ _ _ _ _ _ (c .before .enum-told4 .given .1) (c .say-refused .ensures)
 
-same-length-2 : tie.Need-same-length-2
-same-length-2 c = search needs
+same-length : tie.Need-same-length
+same-length c = search needs
 
 returns-5 : tie.Need-returns-5
 returns-5 c = did-answer-commit _ _ _ _ _ _ _ (c .before .before .before .before .enum-told5 .given .1) (c .before .before .answer-commit .ensures)
 
-same-length-3 : tie.Need-same-length-3
-same-length-3 c = search needs
+same-length-2 : tie.Need-same-length-2
+same-length-2 c = search needs
 
 returns-6 : tie.Need-returns-6
 returns-6 c = did-confirm-commit _ _ _ _ _ _ _ (c .before .before .before .before .enum-told6 .given .1) (c .before .before .confirm-commit .ensures)
 
-same-length-4 : tie.Need-same-length-4
-same-length-4 c = search needs
+same-length-3 : tie.Need-same-length-3
+same-length-3 c = search needs
 
 returns-7 : tie.Need-returns-7
 returns-7 c = did-reply-token _ _ _ _ _ _ _ (c .before .before .before .before .enum-told7 .given .1) (c .before .before .reply-token .ensures)
 
-same-length-5 : tie.Need-same-length-5
-same-length-5 c = search needs
+same-length-4 : tie.Need-same-length-4
+same-length-4 c = search needs
 
 returns-8 : tie.Need-returns-8
 returns-8 c = did-switch-group _ _ _ _ _ _ _ (c .before .before .before .before .enum-told8 .given .1) (c .before .before .switch-group .ensures)
 
-same-length-6 : tie.Need-same-length-6
-same-length-6 c = search needs
+same-length-5 : tie.Need-same-length-5
+same-length-5 c = search needs
 
 returns-9 : tie.Need-returns-9
 returns-9 c = did-repeat-commit _ _ _ _ _ _ _ (c .before .before .before .before .enum-told9 .given .1) (c .before .before .repeat-commit .ensures)
 
-same-length-7 : tie.Need-same-length-7
-same-length-7 c = search needs
+same-length-6 : tie.Need-same-length-6
+same-length-6 c = search needs
 
 returns-10 : tie.Need-returns-10
 returns-10 c = did-repeat-refusal _ _ _ _ _ _ _ (c .before .before .before .before .enum-told10 .given .1) (c .before .before .repeat-refusal .ensures)
 
-same-length-8 : tie.Need-same-length-8
-same-length-8 c = search needs
+same-length-7 : tie.Need-same-length-7
+same-length-7 c = search needs
 
 returns-11 : tie.Need-returns-11
 returns-11 c = did-resend-both _ _ _ _ _ _ _ (c .before .before .before .before .enum-told11 .given .1) (c .before .before .resend-both .ensures)
 
-same-length-9 : tie.Need-same-length-9
-same-length-9 c = search needs
+same-length-8 : tie.Need-same-length-8
+same-length-8 c = search needs
 
 returns-12 : tie.Need-returns-12
 returns-12 c = did-confirm-again _ _ _ _ _ _ _ (c .before .before .before .before .enum-told12 .given .1) (c .before .before .confirm-again .ensures)
 
-same-length-10 : tie.Need-same-length-10
-same-length-10 c = search needs
+same-length-9 : tie.Need-same-length-9
+same-length-9 c = search needs
 
 returns-13 : tie.Need-returns-13
 returns-13 c = did-give-up _ _ _ _ _ _ _ (c .before .before .before .before .enum-told13 .given .1) (c .before .before .abandon .ensures)
 
-same-length-11 : tie.Need-same-length-11
-same-length-11 c = search needs
+same-length-10 : tie.Need-same-length-10
+same-length-10 c = search needs
 
 returns-14 : tie.Need-returns-14
 returns-14 c = did-accept _ _ _ _ _ _ _ (c .before .before .before .before .enum-told14 .given .1) (c .before .before .accept .ensures)
 
-same-length-12 : tie.Need-same-length-12
-same-length-12 c = search needs
+same-length-11 : tie.Need-same-length-11
+same-length-11 c = search needs
 
 returns-15 : tie.Need-returns-15
 returns-15 c = did-hear-again _ _ _ _ _ _ _ (c .before .before .before .before .enum-told15 .given .1) (c .before .before .hear-again .ensures)
 
-same-length-13 : tie.Need-same-length-13
-same-length-13 c = search needs
+same-length-12 : tie.Need-same-length-12
+same-length-12 c = search needs
 
 returns-16 : tie.Need-returns-16
 returns-16 c = did-hear-last _ _ _ _ _ _ _ (c .before .before .before .before .enum-told16 .given .1) (c .before .before .hear-last .ensures)
 
-same-length-14 : tie.Need-same-length-14
-same-length-14 c = search needs
+same-length-13 : tie.Need-same-length-13
+same-length-13 c = search needs
 
 returns-17 : tie.Need-returns-17
 returns-17 c = did-end-link _ _ _ _ _ _ _ (c .before .before .before .before .enum-told17 .given .1) (c .before .before .end-link .ensures)
 
-same-length-15 : tie.Need-same-length-15
-same-length-15 c = search needs
+same-length-14 : tie.Need-same-length-14
+same-length-14 c = search needs
 
 returns-18 : tie.Need-returns-18
 returns-18 c = did-begin _ _ _ _ _ _ _ (c .before .before .before .before .enum-told18 .given .1) (c .before .before .begin .ensures)
@@ -215,7 +212,7 @@ perform-spec =
     tie.close
     (tie.spec
     enum-told
-    drop-frame-requires
+    say-frames-requires
     enum-told-2
     refuse-group-requires
     enum-told-3
@@ -250,36 +247,35 @@ perform-spec =
     end-link-requires
     enum-told-18
     begin-requires
-    same-length
     returns
     returns-2
     returns-3
     returns-4
-    same-length-2
+    same-length
     returns-5
-    same-length-3
+    same-length-2
     returns-6
-    same-length-4
+    same-length-3
     returns-7
-    same-length-5
+    same-length-4
     returns-8
-    same-length-6
+    same-length-5
     returns-9
-    same-length-7
+    same-length-6
     returns-10
-    same-length-8
+    same-length-7
     returns-11
-    same-length-9
+    same-length-8
     returns-12
-    same-length-10
+    same-length-9
     returns-13
-    same-length-11
+    same-length-10
     returns-14
-    same-length-12
+    same-length-11
     returns-15
-    same-length-13
+    same-length-12
     returns-16
-    same-length-14
+    same-length-13
     returns-17
-    same-length-15
+    same-length-14
     returns-18)
