@@ -209,7 +209,8 @@ uint32_t sae_kill(uint8_t *table, size_t table_len, const uint8_t address[6], ui
  * verified                the chip's verdict, 0 or 1: whether a Commit's scalar and element are valid, or a Confirm's value is right for
  *                         its counter and the pair that it meets (the run's if it is Confirmed, the link's if there is no run); 0 for
  *                         other frames
- * answer                  event, frames to send, group used; a frame that is dropped answers none of them
+ * answer                  event, frames to send, group used; a frame that is dropped answers none of them, and leaves every octet of
+ *                         the table
  *
  * Refuses 2, 3, 4, 5, 6, 7 and 9. */
 uint32_t sae_receive(uint8_t *table, size_t table_len, const uint8_t address[6], uint32_t now, const uint8_t *frame, size_t frame_len,

@@ -51,7 +51,7 @@ RULES = {
     "Acts": [
         "repeat: Sync above 5, give up; else Sync + 1, send, set t0",
         "give up: the run ends, event 2",
-        "drop: send nothing; with a run in being, set t0",
+        "drop: send nothing, change nothing",
         "form: the frame's group, its commit stored, Sync 0, Sc 1, set t0; a link beside it gets its mark",
         "set t0: now + 40 ms × 2^Sync",
         "kill, set up: run and link end",

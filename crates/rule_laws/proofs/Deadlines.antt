@@ -84,25 +84,30 @@ module _ (t : Terms) (c : Call) (p : Peer) (m : Message) where
 
 -- ---- when they move
 
--- both deadlines stay, or a frame is sent, or the record's run or link ends
-pub data Moves (p : Peer) (s : Step) : Type 0 where
-  still : Still p (s .peer) → Moves p s
-  has-sent : (s .frames ≡ None → ⊥) → Moves p s
-  has-ended : Ends p (s .peer) → Moves p s
+-- both deadlines stay, or a frame is sent, or the record's run or link ends; an event tells the end, unless it may go untold
+pub data StepMoves (untold : Bool) (p : Peer) (s : Step) : Type 0 where
+  still : Still p (s .peer) → StepMoves untold p s
+  has-sent : (s .frames ≡ None → ⊥) → StepMoves untold p s
+  has-ended : Ends p (s .peer) → (s .event ≡ event.None → untold ≡ true) → StepMoves untold p s
+
+-- no act's end goes untold
+abbrev pub ActMoves : Peer → Step → Type 0
+ActMoves p s = StepMoves false p s
 
 -- a run that is given up, or accepted, was in being and is no more
-abandon-moves : (p : Peer) → (p .run .state ≡ 0 → ⊥) → Moves p (abandoning p)
+abandon-moves : (p : Peer) → (p .run .state ≡ 0 → ⊥) → ActMoves p (abandoning p)
 unfolding abandoning withRun noRun noPeer
 abandon-moves p d =
     has-ended (run-ends (rw (ne-eqb _ _ d) refl) (settle-outcomes (λ (q : Peer). hasRun q ≡ false) (withRun p noRun) (λ x y. refl) (λ z. refl)))
+    (λ e. absurd (told _ refl e))
 
-accept-moves : (p : Peer) (counter time : ℕ) → (p .run .state ≡ 0 → ⊥) → Moves p (accepting p counter time)
+accept-moves : (p : Peer) (counter time : ℕ) → (p .run .state ≡ 0 → ⊥) → ActMoves p (accepting p counter time)
 unfolding accepting noRun
-accept-moves p counter time d = has-ended (run-ends (rw (ne-eqb _ _ d) refl) refl)
+accept-moves p counter time d = has-ended (run-ends (rw (ne-eqb _ _ d) refl) refl) (λ e. absurd (told _ refl e))
 
-repeat-moves : (τ : Timing) (p : Peer) (sc : ℕ) (fs : Frames) (time : ℕ) → (p .run .state ≡ 0 → ⊥) → (fs ≡ None → ⊥) → Moves p (retransmitting τ p sc fs time)
+repeat-moves : (τ : Timing) (p : Peer) (sc : ℕ) (fs : Frames) (time : ℕ) → (p .run .state ≡ 0 → ⊥) → (fs ≡ None → ⊥) → ActMoves p (retransmitting τ p sc fs time)
 unfolding sending
-repeat-moves τ p sc fs time d f = repeat-outcomes (Moves p) τ p sc fs time (λ h. abandon-moves p d) (λ h. has-sent f)
+repeat-moves τ p sc fs time d f = repeat-outcomes (StepMoves false p) τ p sc fs time (λ h. abandon-moves p d) (λ h. has-sent f)
 
 -- a link that ends was in being; where none was, a sound record stays as it is
 module _ (own gs a : List ℕ) (p : Peer) (k : Kept own gs a p) where
@@ -114,19 +119,21 @@ module _ (own gs a : List ℕ) (p : Peer) (k : Kept own gs a p) where
   unfolding noLink
   no-link-t1 e = let q = parts own gs a p k in ap (λ (l : Link). l .t1) (link-unused gs (p .link) (q .fitLink .shape) (q .link) e)
 
-  end-moves : Moves p (endingLink p)
+  end-moves : ActMoves p (endingLink p)
   unfolding endingLink withLink noLink noRun noPeer
   end-moves = elim (ℕ-discrete (p .link .finished) 0) [
     | yes e ↦ still (record {
       t0 = settle-outcomes (λ (q : Peer). q .run .t0 ≡ p .run .t0) (withLink p noLink) (λ x y. sym (no-run-t0 x)) (λ d. refl);
       t1 = settle-outcomes (λ (q : Peer). q .link .t1 ≡ p .link .t1) (withLink p noLink) (λ x y. sym (no-link-t1 e)) (λ d. sym (no-link-t1 e));
     })
-    | no d ↦ has-ended (link-ends (rw (ne-eqb _ _ d) refl) (settle-outcomes (λ (q : Peer). hasLink q ≡ false) (withLink p noLink) (λ x y. refl) (λ z. refl)))
+    | no d ↦
+        has-ended (link-ends (rw (ne-eqb _ _ d) refl) (settle-outcomes (λ (q : Peer). hasLink q ≡ false) (withLink p noLink) (λ x y. refl) (λ z. refl)))
+        (λ e. absurd (told _ refl e))
   ]
 
 module _ (t : Terms) (c : Call) (p : Peer) (m : Message) (k : Kept (t .own) (t .groups) (c .address) p) where
   -- EVERY ACT leaves both deadlines, sends a frame, or its run or link ends
-  pub act-moves : {a : Act} → Asked t c p m a → Moves p (perform t c p m a)
+  pub act-moves : {a : Act} → Asked t c p m a → ActMoves p (perform t c p m a)
   unfolding perform dropping answering refusing sending forming starting withLink heardAgain answeringCommit confirmingCommit replyingToken repeatingCommit repeatingRefusal resendingBoth confirmingAgain hearingAgain hearingLast
   act-moves (drop d) = still (record { t0 = refl; t1 = refl })
   act-moves (refuse-group r z l) = still (record { t0 = refl; t1 = refl })
@@ -137,7 +144,7 @@ module _ (t : Terms) (c : Call) (p : Peer) (m : Message) (k : Kept (t .own) (t .
   act-moves (confirm-commit s o g e) = has-sent (sent _ refl)
   act-moves (reply-token s z g) = has-sent (sent _ refl)
   act-moves (switch-group s z g) =
-      switch-outcomes (Moves p) (t .timing) p (t .groups) (c .fresh) (c .time) (λ i g h. has-sent (sent _ refl)) (λ h. abandon-moves p (λ q. omega arith))
+      switch-outcomes (StepMoves false p) (t .timing) p (t .groups) (c .fresh) (c .time) (λ i g h. has-sent (sent _ refl)) (λ h. abandon-moves p (λ q. omega arith))
   act-moves (repeat-commit s z) = repeat-moves (t .timing) p _ _ (c .time) (λ q. omega arith) (sent _ refl)
   act-moves (repeat-refusal s z l) = repeat-moves (t .timing) p _ _ (c .time) (λ q. omega arith) (sent _ refl)
   act-moves (resend-both s z l g) = has-sent (sent _ refl)

@@ -55,15 +55,19 @@ pub data Drops (t : Terms) (c : Call) (p : Peer) (m : Message) : Type 0 where
   ours-verdict : p .run .state ≡ 1 → Supported m → m .group ≡ p .run .group → unverified c ≡ true → Drops t c p m
   -- "Confirm in Committed: nonzero status, drop;"
   committed-confirm : p .run .state ≡ 1 → (m .sequence ≡ 1 → ⊥) → (m .status ≡ 0 → ⊥) → Drops t c p m
-  -- "Confirmed. Commit: status nonzero, drop; Sync above 5, give up; group differs, drop;"
+  -- "Confirmed. Commit: status nonzero, drop;
   confirmed-status : p .run .state ≡ 2 → m .sequence ≡ 1 → (m .status ≡ 0 → ⊥) → Drops t c p m
+  --  Sync above 5, give up; group differs, drop;"
   confirmed-group : p .run .state ≡ 2 → m .sequence ≡ 1 → p .run .sync ≤ t .timing .limit → (m .group ≡ p .run .group → ⊥) → Drops t c p m
-  -- "Confirm: status nonzero or verdict 0, drop;"
+  -- "Confirm: status nonzero
   confirmed-confirm : p .run .state ≡ 2 → (m .sequence ≡ 1 → ⊥) → (m .status ≡ 0 → ⊥) → Drops t c p m
+  --  or verdict 0, drop;"
   confirmed-verdict : p .run .state ≡ 2 → (m .sequence ≡ 1 → ⊥) → unverified c ≡ true → Drops t c p m
-  -- "Link, no run, Confirm: status nonzero, drop; its Sync above 5, link ends; counter not above Rc, drop; verdict 0, drop;"
+  -- "Link, no run, Confirm: status nonzero, drop;
   link-status : NoRun p → (p .link .finished ≡ 0 → ⊥) → (m .sequence ≡ 1 → ⊥) → (m .status ≡ 0 → ⊥) → Drops t c p m
+  --  its Sync above 5, link ends; counter not above Rc, drop;
   link-counter : NoRun p → (p .link .finished ≡ 0 → ⊥) → (m .sequence ≡ 1 → ⊥) → p .link .sync ≤ t .timing .limit → m .counter ≤ p .link .rc → Drops t c p m
+  --  verdict 0, drop;"
   link-verdict : NoRun p → (p .link .finished ≡ 0 → ⊥) → (m .sequence ≡ 1 → ⊥) → p .link .sync ≤ t .timing .limit → unverified c ≡ true → Drops t c p m
   -- "Confirm with neither: drop."
   neither : NoRun p → p .link .finished ≡ 0 → (m .sequence ≡ 1 → ⊥) → Drops t c p m
