@@ -146,11 +146,11 @@ pub silent-still : (t a : List ℕ) (c : PeerCall) → Bytes t → length a ≡ 
 silent-still t a c b la ba h n q = elim (ℕ-discrete (look (decodeTable (left t c .table)) a .run .t0) (look (decodeTable t) a .run .t0)) [
   | yes e ↦ elim (ℕ-discrete (look (decodeTable (left t c .table)) a .link .t1) (look (decodeTable t) a .link .t1)) [
     | yes f ↦ record { t0 = e; t1 = f }
-    | no d ↦ absurd (loud (deadlines-move t a c b la ba h (λ s. d (s .t1))))
+    | no d ↦ absurd (untold (deadlines-move t a c b la ba h (λ s. d (s .t1))))
   ]
-  | no d ↦ absurd (loud (deadlines-move t a c b la ba h (λ s. d (s .t0))))
+  | no d ↦ absurd (untold (deadlines-move t a c b la ba h (λ s. d (s .t0))))
 ]
   where
-    loud : Moves t a (isKill c) (left t c) → ⊥
-    loud (sends e f) = f (q .frames)
-    loud (ends e x y) = clash (y (q .event)) n
+    untold : Moves t a (isKill c) (left t c) → ⊥
+    untold (sends e f) = f (q .frames)
+    untold (ends e x y) = clash (y (q .event)) n

@@ -23,7 +23,7 @@ use Rattle.answers.proofs.Laws.{Entered, free-record}
 use Rattle.calls.specs.Calls.{frameTurn, frameStep, receives}
 use Rattle.call_laws.specs.Causes.{frameNames}
 use Rattle.call_laws.specs.Isolation.{PeerCall, after}
-use Rattle.call_laws.specs.Drops.{FrameDrops, Unchanged, Noise, silent, louder}
+use Rattle.call_laws.specs.Drops.{FrameDrops, Unchanged, AllDrop, no-more, one-more}
 use Rattle.call_laws.proofs.Good.{entered-sound, frame-entered}
 use Rattle.call_laws.proofs.Ends.{finish-answer, entered-finds}
 use Rattle.call_laws.proofs.Refuses.{Iff}
@@ -78,9 +78,9 @@ module _ (t a : List ℕ) (time : ℕ) (frame fresh expected : List ℕ) (verdic
     unfolding receives
     dropped-unchanged = turn-unchanged (frameTurn (entry t a) t frame fresh expected verdict) refl
 
--- so that dropped frames leave every octet however many there are: "a noisy neighbour" holds no retry off
-pub noise-unchanged : (t : List ℕ) (ds : List PeerCall) → Bytes t → Noise t ds → after t ds ≡ t
+-- so that dropped frames leave every octet however many there are, and with them every deadline: no retry is held off
+pub all-dropped-unchanged : (t : List ℕ) (ds : List PeerCall) → Bytes t → AllDrop t ds → after t ds ≡ t
 unfolding after
-noise-unchanged t ds b silent = refl
-noise-unchanged t ds b (louder {a} {time} {frame} {fresh} {expected} {verdict} {cs} d n) =
-    ap (λ (u : List ℕ). receives u a time frame fresh expected verdict .table) (noise-unchanged t cs b n) ∙ dropped-unchanged t a time frame fresh expected verdict b d .table
+all-dropped-unchanged t ds b no-more = refl
+all-dropped-unchanged t ds b (one-more {a} {time} {frame} {fresh} {expected} {verdict} {cs} d n) =
+    ap (λ (u : List ℕ). receives u a time frame fresh expected verdict .table) (all-dropped-unchanged t cs b n) ∙ dropped-unchanged t a time frame fresh expected verdict b d .table

@@ -25,7 +25,7 @@ pub record Unchanged (t a : List ℕ) (l : Left) : Type 0 where
   pub answer : l .answer .outcome ≡ outcome.Done → l .answer ≡ quiet a
 
 -- frame calls alone, whoever they are about, each of a frame that is dropped at the table t
-pub data Noise (t : List ℕ) : List PeerCall → Type 0 where
-  silent : Noise t []
-  louder : {a : List ℕ} {time : ℕ} {frame fresh expected : List ℕ} {verdict : ℕ} {cs : List PeerCall}
-      → FrameDrops t a time frame fresh expected verdict → Noise t cs → Noise t (receive a time frame fresh expected verdict ∷ cs)
+pub data AllDrop (t : List ℕ) : List PeerCall → Type 0 where
+  no-more : AllDrop t []
+  one-more : {a : List ℕ} {time : ℕ} {frame fresh expected : List ℕ} {verdict : ℕ} {cs : List PeerCall}
+      → FrameDrops t a time frame fresh expected verdict → AllDrop t cs → AllDrop t (receive a time frame fresh expected verdict ∷ cs)

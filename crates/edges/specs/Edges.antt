@@ -173,7 +173,7 @@ pub data Question : Type 0 where
   -- started at a reading, the slot that a clock call at another reading takes
   Due : ℕ → ℕ → Question
   -- started at a reading, and a Commit with verdict 0 heard at a second one: the act, and the slot that a clock call at a third takes
-  Noisy : ℕ → ℕ → ℕ → Question
+  DueAfter : ℕ → ℕ → ℕ → Question
   -- a run in a state with a Sync whose t0 is due: the act that the ladder names, event, Sync left, frames
   Expired : ℕ → ℕ → Question
   -- a link with a Sync and Rc gets a Confirm with a counter and a verdict: the act, Rc and Sync left, frames
@@ -207,8 +207,8 @@ abbrev pub answerConfirmed : Table → List ℕ → ℕ → List ℕ
 answerConfirmed T frame verdict =
     sayConfirmed (heard T (found.At 7) (address 1) 0 frame verdict) (frameStep T (found.At 7) (address 1) 0 frame stock expected verdict)
 
-abbrev pub answerNoisy : Table → List ℕ → ℕ → ℕ → List ℕ
-answerNoisy T frame time later =
+abbrev pub answerDueAfter : Table → List ℕ → ℕ → ℕ → List ℕ
+answerDueAfter T frame time later =
     named (heard T (found.At 7) (address 1) time frame 0)
     ∷ slotNumbers (dueSlot (placed T 7 (frameStep T (found.At 7) (address 1) time frame stock expected 0 .peer)) later)
 
@@ -219,7 +219,7 @@ unfoldable pub answer : Question → List ℕ
 answer (Received s) = admitted (admitFrame empty found.Nothing s stock expected 1) (view (groupsOf (empty .header)) s)
 answer (Deadline time) = started time .run .t0 ∷ []
 answer (Due time later) = slotNumbers (dueSlot (placed empty 7 (started time)) later)
-answer (Noisy time heard later) = answerNoisy (placed empty 7 (started time)) (commitOctets 96) heard later
+answer (DueAfter time heard later) = answerDueAfter (placed empty 7 (started time)) (commitOctets 96) heard later
 answer (Expired state sync) = answerExpired (placed empty 7 (running 1 state sync))
 answer (Confirmed sync rc counter verdict) = answerConfirmed (placed empty 7 (linked 1 sync rc)) (confirmOctets counter 32) verdict
 answer (Offered n) = answerOffered (withOpen n) (commitOctets 96)
@@ -265,8 +265,8 @@ edges =
     ∷ case (Offered 4) (named AnswerCommit ∷ 19 ∷ 1 ∷ 0 ∷ 19 ∷ 0 ∷ 2 ∷ 0 ∷ 0 ∷ 1 ∷ [])
     ∷ case (Offered 5) (named AskToken ∷ 0 ∷ 1 ∷ 76 ∷ 19 ∷ 0 ∷ [])
     -- request b: started at 0, a bad Commit at 30 is dropped, and t0 is due at 40 as it was
-    ∷ case (Noisy 0 30 39) (named Drop ∷ [])
-    ∷ case (Noisy 0 30 40) (named Drop ∷ 7 ∷ [])
+    ∷ case (DueAfter 0 30 39) (named Drop ∷ [])
+    ∷ case (DueAfter 0 30 40) (named Drop ∷ 7 ∷ [])
     -- request b: counter 65,535 with verdict 1 is no drop; nothing is sent, and Rc becomes 65,535
     ∷ case (Confirmed 0 1 65535 1) (named HearLast ∷ 65535 ∷ 0 ∷ [])
     ∷ case (Confirmed 0 1 65535 0) (named Drop ∷ 1 ∷ 0 ∷ [])
