@@ -135,11 +135,10 @@ impl History {
             Call::Receive { frame, .. } => frame::read(frame, groups),
             _ => None,
         };
-        // "A repeat is a call in a run that sends, uses nothing afresh, forms nothing and is not the reply to a 76."
+        // "A repeat is a call in a run that sends, uses nothing afresh, forms nothing": the reply to a 76 is one too.
         let forms = received.is_some() && answer.forms();
-        let token_reply = matches!(received, Some(Body::TokenRequest { .. }));
         if let Some(run) = &mut peer.run {
-            if !answer.frames.is_empty() && fresh.is_none() && !forms && !token_reply {
+            if !answer.frames.is_empty() && fresh.is_none() && !forms {
                 let repeats = &mut run.repeats[usize::from(run.stands)];
                 *repeats += 1;
                 if *repeats > REPEATS {

@@ -183,14 +183,17 @@ fn commit_without_run(mut peer: Option<&mut Record>, turn: &Turn, body: &Body) -
     Ok(answer_commit(peer, turn, group, commit))
 }
 
-/// Commit in Committed, "76: our group, store the token, send Commit with it, set t0, not counted; other group, drop."
+/// Commit in Committed, "76: our group, store the token, send Commit with it"; "A Commit sent again for a 76 is now a Repeat: it
+/// gives up above the limit and raises Sync"; "other group, drop."
 fn token_request_in_committed(peer: &mut Record, turn: &Turn, group: u16, token: &[u8]) -> Step {
     if group != peer.group() {
         return drop_frame();
     }
-    peer.set_token(token);
-    set_t0(peer, turn.now);
-    Step::send(Frame::commit(group))
+    let step = retransmit_commit(peer, turn.now);
+    if let Event::None = step.event {
+        peer.set_token(token);
+    }
+    step
 }
 
 /// Commit in Committed, "77: our group, mark it rejected and take the first group in its own list that is not marked as

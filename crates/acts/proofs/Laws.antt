@@ -18,7 +18,7 @@ use Rattle.record.specs.declared.Link.{Link}
 use Rattle.record.specs.declared.Peer.{Peer}
 use Rattle.record.proofs.Laws.{ShapeLink, dec-enc-link}
 use Rattle.record.proofs.Windows.{laid, laid-put, used-left, address-left, run-window, run-left, link-window, link-left, no-run-left, no-link-left, no-peer-left}
-use Rattle.rules.specs.Parts.{withRun, withLink, counting}
+use Rattle.rules.specs.Parts.{withRun, withLink, withSync, withSc}
 use Rattle.rules.specs.Book.{factory, deadline, delay, setT0, sending, settled, abandoning, retransmitting, formedRun, forming, supersede, linkOfRun, accepting, endingLink}
 use Rattle.rules.specs.Said.{sayingFrames, sayingEvent, Does}
 use Rattle.rules.specs.declared.Event.the-variants as event
@@ -28,8 +28,8 @@ use Rattle.rules.specs.declared.Said.{Said}
 -- ---- in the run's octets
 
 pub count-law : (s s₁ s₂ t : List ℕ) (sync sc time x : ℕ) → length s ≡ runSize width → sync < 256 → sc < 65536 → x < 4294967296 → x ≡ deadline time (delay factory sync)
-    → s₁ ≡ put s 1 (oct 1 sync) → s₂ ≡ put s₁ 3 (oct 2 sc) → t ≡ put s₂ 9 (oct 4 x) → decodeRun width t ≡ setT0 factory (counting (decodeRun width s) sync sc) time
-unfolding decodeRun runOf runWidths cut total setT0 counting
+    → s₁ ≡ put s 1 (oct 1 sync) → s₂ ≡ put s₁ 3 (oct 2 sc) → t ≡ put s₂ 9 (oct 4 x) → decodeRun width t ≡ setT0 factory (withSync (withSc (decodeRun width s) sc) sync) time
+unfolding decodeRun runOf runWidths cut total setT0 withSync withSc
 count-law s s₁ s₂ t sync sc time x h bn bc bx e q₁ q₂ q =
     let A = laid-put s₁ 1 1 (oct 1 sync) (laid (runWidths width) s (runSize width) h) (lit< tt) (length-oct 1 sync) refl (omega (arith, length-oct 1 sync)) q₁ in
     let B = laid-put s₂ 3 3 (oct 2 sc) A (lit< tt) (length-oct 2 sc) refl (omega (arith, length-oct 2 sc)) q₂ in
@@ -112,11 +112,11 @@ module _ (s : List ℕ) (h : length s ≡ recordSize width) where
   link-changed z l n e = link-left s h z l n e
 
   pub send-law : (y : List ℕ) (sync sc time : ℕ) (fs : Frames) (x : Said) → length y ≡ runSize width
-      → decodeRun width y ≡ setT0 factory (counting (decodeRun width (take (runSize width) (drop 7 s))) sync sc) time → x ≡ sayingFrames fs
-      → Does x (putMid 7 (runSize width) s y) (sending factory (decodePeer width s) (counting (decodePeer width s .run) sync sc) fs 0 time)
+      → decodeRun width y ≡ setT0 factory (withSync (withSc (decodeRun width (take (runSize width) (drop 7 s))) sc) sync) time → x ≡ sayingFrames fs
+      → Does x (putMid 7 (runSize width) s y) (sending factory (decodePeer width s) (withSync (withSc (decodePeer width s .run) sc) sync) fs 0 time)
   unfolding sending
   send-law y sync sc time fs x n e q = record {
-    leaves = run-changed y _ n (e ∙ ap (λ (r : Run). setT0 factory (counting r sync sc) time) (run-window s h));
+    leaves = run-changed y _ n (e ∙ ap (λ (r : Run). setT0 factory (withSync (withSc r sc) sync) time) (run-window s h));
     says = q;
   }
 
@@ -198,15 +198,15 @@ module _ (s : List ℕ) (h : length s ≡ recordSize width) where
 
 -- "Repeat"
 module _ (s u : List ℕ) (x : Said) (sc time : ℕ) (fs : Frames) (n : ℕ) (e : n ≡ decodePeer width s .run .sync) where
-  pub repeat-ended : 5 < n → Does x u (abandoning (decodePeer width s)) → Does x u (retransmitting factory (decodePeer width s) sc fs time)
+  pub repeat-ended : 5 < n → Does x u (abandoning (decodePeer width s)) → Does x u (retransmitting factory (decodePeer width s) (withSc (decodePeer width s .run) sc) fs time)
   unfolding retransmitting
   repeat-ended l d = let k : ltb 5 (decodePeer width s .run .sync) ≡ true = lt-ltb _ _ (subst (λ (m : ℕ). 5 < m) e l) in rw k d
 
-  pub repeat-sent : n ≤ 5 → Does x u (sending factory (decodePeer width s) (counting (decodePeer width s .run) (n + 1) sc) fs 0 time) → Does x u (retransmitting factory (decodePeer width s) sc fs time)
+  pub repeat-sent : n ≤ 5 → Does x u (sending factory (decodePeer width s) (withSync (withSc (decodePeer width s .run) sc) (n + 1)) fs 0 time) → Does x u (retransmitting factory (decodePeer width s) (withSc (decodePeer width s .run) sc) fs time)
   unfolding retransmitting
   repeat-sent l d =
       let k : ltb 5 (decodePeer width s .run .sync) ≡ false = le-ltb _ _ (subst (λ (m : ℕ). m ≤ 5) e l) in
-      rw k (subst (λ (m : ℕ). Does x u (sending factory (decodePeer width s) (counting (decodePeer width s .run) (m + 1) sc) fs 0 time)) e d)
+      rw k (subst (λ (m : ℕ). Does x u (sending factory (decodePeer width s) (withSync (withSc (decodePeer width s .run) sc) (m + 1)) fs 0 time)) e d)
 
 -- the link that a run becomes, stored
 pub linked-law : (u : List ℕ) (r : Run) (counter time t1 : ℕ) → t1 ≡ deadline time 86400000 → ShapeLink width (record { finished = 1; superseded = 0; sync = r .sync; spare = 0; group = r .group; rc = counter; t1 = t1; own = r .own; peer = r .peer })

@@ -1,11 +1,11 @@
 // What the acts of the rule book share, in a record's own octets: the scope's own words "Repeat", "Give up" and "Form", how a run becomes a link, and
 // how a link ends. "Drop" changes nothing there.
 ghost use mathlib.Core.Path.{_≡_};
-ghost use Prim.Native.Nat.{_+_, _≤_, _<_};
+ghost use Prim.Native.Nat.{_+_, _≤_};
 ghost use lib.ListN.{length};
 ghost use Rattle.groups.specs.Groups.{width};
 ghost use Rattle.record.specs.Layout.{decodeRun, decodeLink, decodePeer, runSize, linkSize, recordSize};
-ghost use Rattle.rules.specs.Parts.{counting};
+ghost use Rattle.rules.specs.Parts.{withSync, withSc};
 ghost use Rattle.rules.specs.Book.{factory, commitFrame, tokenRequestFrame, groupRefusalFrame, confirmFrame, setT0, sending, abandoning, retransmitting, supersede, formedRun, forming, linkOfRun, accepting, endingLink};
 ghost use Rattle.rules.specs.Said.{sayingFrames, sayingEvent, sayingRefused, Does};
 use groups::COMMIT;
@@ -81,7 +81,7 @@ pub fn confirm_frame(counter: u16) -> Frame
 // Another Sync and Sc, and t0 set.
 fn count_run(r: &mut [u8], sync: u8, sc: u16, time: u32)
     requires { ⌜ (length (now r) ≡ runSize width) × (sync ≤ 6) ⌝ }
-    ensures { λ _. ⌜ decodeRun width (now (r .exit)) ≡ setT0 factory (counting (decodeRun width (now (r .entry))) sync sc) time ⌝ }
+    ensures { λ _. ⌜ decodeRun width (now (r .exit)) ≡ setT0 factory (withSync (withSc (decodeRun width (now (r .entry))) sc) sync) time ⌝ }
 {
     let at = deadlines::t0_at(time, sync);
     octets::put8(r, SYNC, sync);
@@ -182,7 +182,7 @@ pub fn say_refused() -> Said
 // Frames are sent for a run with another Sync and Sc, and t0 is set.
 pub fn send_counted(s: &mut [u8], sync: u8, sc: u16, frames: Frames, time: u32) -> Said
     requires { ⌜ (length (now s) ≡ recordSize width) × (sync ≤ 6) ⌝ }
-    ensures { λ x. ⌜ Does x (now (s .exit)) (sending factory (decodePeer width (now (s .entry))) (counting (decodePeer width (now (s .entry)) .run) sync sc) frames 0 time) ⌝ }
+    ensures { λ x. ⌜ Does x (now (s .exit)) (sending factory (decodePeer width (now (s .entry))) (withSync (withSc (decodePeer width (now (s .entry)) .run) sc) sync) frames 0 time) ⌝ }
 {
     count_run(&mut s[RUN..LINK], sync, sc, time);
     say_frames(frames)
@@ -205,7 +205,7 @@ pub fn abandon(s: &mut [u8]) -> Said
 // "Repeat", with the Sc that the run then has.
 pub fn retransmit(s: &mut [u8], sc: u16, frames: Frames, time: u32) -> Said
     requires { ⌜ length (now s) ≡ recordSize width ⌝ }
-    ensures { λ x. ⌜ Does x (now (s .exit)) (retransmitting factory (decodePeer width (now (s .entry))) sc frames time) ⌝ }
+    ensures { λ x. ⌜ Does x (now (s .exit)) (retransmitting factory (decodePeer width (now (s .entry))) (withSc (decodePeer width (now (s .entry)) .run) sc) frames time) ⌝ }
 {
     let sync = record::sync_of(s);
     if sync > Settings::SYNC_LIMIT {

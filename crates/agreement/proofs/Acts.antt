@@ -23,7 +23,7 @@ use Rattle.rules.specs.Book.{_is_, _isnt_, supersede}
 use Rattle.agreement.specs.Calls.{Call}
 use Rattle.agreement.specs.Story.{stockOf, someFrame, isConfirm, isFirstConfirm, isAccepted}
 use Rattle.agreement.specs.Sent.{Among, only, first, second}
-use Rattle.agreement.proofs.Rules.{SameRun, SameLink, Afresh, Hears, Verified, Does, quiet, informs, starts, switches, forms-fresh, forms-own, repeats, replies, repeats-both, repeats-confirm, accepts, abandons, ends, answers}
+use Rattle.agreement.proofs.Rules.{SameRun, SameLink, Afresh, Hears, Verified, Does, quiet, informs, starts, switches, forms-fresh, forms-own, repeats, repeats-both, repeats-confirm, accepts, abandons, ends, answers}
 
 -- ---- what a record is to the protocol
 
@@ -247,7 +247,7 @@ module _ (gs : List ℕ) (c : Call) where
           (λ i. over-run refl (C .state) (own-is q (C .group) (C .own), peer-commit-is q (C .group) (C .peer)));
     },
   )
-  did p K (repeats {q} n w s m C k) = (
+  did p K (repeats {q} n s m C k) = (
     sendCommit (ownCommit p),
     record {
       moves = peer-is (view-committed (p .run) s refl refl ∙ sym (view-committed (q .run) (C .state) (C .group) (C .own))) (ap viewLink (sym k));
@@ -259,19 +259,7 @@ module _ (gs : List ℕ) (c : Call) where
       confirms = among-one (λ x. isConfirm x ≡ true → Over q x (sendCommit (ownCommit p))) (λ i. absurd (clash i refl));
     },
   )
-  did p K (replies {q} n w s C k) = (
-    sendCommit (ownCommit p),
-    record {
-      moves = peer-is (view-committed (p .run) s refl refl ∙ sym (view-committed (q .run) (C .state) (C .group) (C .own))) (ap viewLink (sym k));
-      may = rw (view-committed (p .run) s refl refl);
-      uses = λ d u. absurd u;
-      forms = λ d q u. absurd u;
-      accepts = λ d q u. absurd u;
-      commits = λ x m i j. own-is q (C .group) (C .own);
-      confirms = among-one (λ x. isConfirm x ≡ true → Over q x (sendCommit (ownCommit p))) (λ i. absurd (clash i refl));
-    },
-  )
-  did p K (repeats-both {q} n w s m C k) = (
+  did p K (repeats-both {q} n s m C k) = (
     sendBoth (ownCommit p) (peerCommit p),
     record {
       moves = peer-is (view-confirmed (p .run) s refl refl refl ∙ sym (view-confirmed (q .run) (C .state) (C .group) (C .own) (C .peer))) (ap viewLink (sym k));
@@ -284,7 +272,7 @@ module _ (gs : List ℕ) (c : Call) where
           (λ i. absurd (clash i refl)) (λ i. over-run (small-counter _ _ (K s) m) (C .state) (own-is q (C .group) (C .own), peer-commit-is q (C .group) (C .peer)));
     },
   )
-  did p K (repeats-confirm {q} n w s m C k) = (
+  did p K (repeats-confirm {q} n s m C k) = (
     sendConfirm (ownCommit p) (peerCommit p),
     record {
       moves = peer-is (view-confirmed (p .run) s refl refl refl ∙ sym (view-confirmed (q .run) (C .state) (C .group) (C .own) (C .peer))) (ap viewLink (sym k));

@@ -6,6 +6,7 @@ use Prim.Native.Nat.{ℕ}
 use native.Mathlib.Omega.{arith}
 use Rattle.protocol.specs.Model.{Commit, Side, A, B, other, state, unlinked, finished}
 use Rattle.protocol.specs.Model as model
+use Rattle.protocol.specs.Repeats.{latest}
 use Rattle.protocol.proofs.Formed.{formed-before}
 use Rattle.protocol.proofs.Agree.{agreement}
 use Rattle.octets.specs.Scan.{bit}
@@ -21,6 +22,7 @@ use Rattle.agreement.specs.Story as story
 use Rattle.agreement.specs.Statement.{run, Premises, Says, no-link, a-link, Formed, Demand3}
 use Rattle.agreement.specs.Needed.{Needed, Stronger}
 use Rattle.agreement.proofs.Engine.{Lawful}
+use Rattle.agreement.proofs.Shows.{shows-counts}
 use Rattle.agreement.proofs.History.{shown}
 use Rattle.agreement.proofs.Acts.{view, viewLink}
 use Rattle.agreement.proofs.Valid.{ownOf, peerOf, pair-is, other-other, hist, states, rightful, valid, formed-in}
@@ -92,6 +94,11 @@ demand3 own h H = record {
   formed = λ P. demand3-needed own h H .formed (premises-needed own h P .rightful);
   six = λ X a. shown lawful H X a .six;
 }
+
+-- and Sync counts every repeat, with no exception: of a run in being, those since it began or, once its pair stands, since then
+pub sync-counts : (h : List Entry) → AllHanded h → (X : Side) (a : List ℕ) → storyOf h X a .running ≡ true
+    → look (decodeTable (tableOf h X)) a .run .sync ≡ latest (storyOf h X a .stands) (storyOf h X a .runs)
+sync-counts h H X a q = shows-counts _ (storyOf h X a) (shown lawful H X a) q
 
 -- and so for the tables: two finished links with each other, neither marked, have the same group and the same two commits
 record Linked (l : story.Link) (k : Link) : Type 0 where

@@ -7,7 +7,7 @@ use Prim.Native.Nat.{ℕ, _+_, _^_, _≤_, _<_}
 use native.Mathlib.Omega.{arith}
 use lib.Dec.{eqb, ltb}
 use lib.ListN.{length}
-use borrow.Author.Tests.{eqb-true, ne-eqb, not-false}
+use borrow.Author.Tests.{eqb-true, not-false}
 use Rattle.octets.specs.Scan.{if_then_else_}
 use Rattle.octets.specs.Octets.{Bytes, part, num, sameAddress}
 use Rattle.octets.specs.declared.Found.{Found}
@@ -18,7 +18,7 @@ use Rattle.groups.specs.Groups.{freshOk}
 use Rattle.frame.specs.Frame.{readBody}
 use Rattle.frame.specs.declared.Body.{Body}
 use Rattle.frame.specs.declared.Body.the-variants as body
-use Rattle.frame.proofs.Shapes.{commit-shape, other-commit-shape, other-confirm-shape}
+use Rattle.frame.proofs.Shapes.{commit-shape, other-confirm-shape}
 use Rattle.record.specs.declared.Peer.{Peer}
 use Rattle.record.specs.declared.Header.{Header}
 use Rattle.record.specs.Layout.{groupsOf, counted, noPeer, decodeHeader, headerOf}
@@ -157,24 +157,18 @@ module _ (gs a : List ℕ) (time : ℕ) (frame fresh expected : List ℕ) (verdi
   unfolding commitIn view
   heard-by (body.Commit g n) e w = record {
     commit = λ z l. (record { token = n; frame = refl; reads = e; stored-as = refl }, commit-shape gs frame g n e .supported);
-    request = λ o z. absurd (omega arith);
-    other = λ z. rw e;
     confirm = λ d z v. absurd (d refl);
   }
-  heard-by (body.Unsupported g) e w = record { commit = λ z l. absurd (clash l refl); request = λ o z. absurd (omega arith); other = λ z. rw e; confirm = λ d z v. absurd (d refl) }
-  heard-by (body.TokenRequest g n) e w = record { commit = λ z l. absurd (omega arith); request = λ o z. rw e; other = λ z. absurd (z refl); confirm = λ d z v. absurd (d refl) }
-  heard-by (body.GroupRefusal g) e w = record { commit = λ z l. absurd (omega arith); request = λ o z. absurd (omega arith); other = λ z. rw e; confirm = λ d z v. absurd (d refl) }
+  heard-by (body.Unsupported g) e w = record { commit = λ z l. absurd (clash l refl); confirm = λ d z v. absurd (d refl) }
+  heard-by (body.TokenRequest g n) e w = record { commit = λ z l. absurd (omega arith); confirm = λ d z v. absurd (d refl) }
+  heard-by (body.GroupRefusal g) e w = record { commit = λ z l. absurd (omega arith); confirm = λ d z v. absurd (d refl) }
   heard-by (body.OtherCommit x) e w = record {
     commit = λ z l. absurd (clash l refl);
-    request = λ o z. absurd (other-commit-shape gs frame x e .no-request z);
-    other = λ z. rw (e, ne-eqb x 76 z);
     confirm = λ d z v. absurd (d refl);
   }
-  heard-by (body.Confirm n) e w = record { commit = λ z l. absurd (clash l refl); request = λ o z. absurd (omega arith); other = λ z. rw e; confirm = λ d z v. is-verified n e v }
+  heard-by (body.Confirm n) e w = record { commit = λ z l. absurd (clash l refl); confirm = λ d z v. is-verified n e v }
   heard-by (body.OtherConfirm x) e w = record {
     commit = λ z l. absurd (clash l refl);
-    request = λ o z. absurd (clash o refl);
-    other = λ z. rw e;
     confirm = λ d z v. absurd (other-confirm-shape gs frame x e .not-zero z);
   }
   heard-by body.Malformed e w = absurd (clash refl w)
@@ -193,7 +187,7 @@ frame-kind t a time frame fresh expected verdict f S w W z =
 
 -- a clock call brings no frame
 no-frame : (gs : List ℕ) (time : ℕ) → Heard gs (expire time) silence false
-no-frame gs time = record { commit = λ z l. absurd (clash l refl); request = λ o z. absurd (omega arith); other = λ z. refl; confirm = λ d z v. absurd (clash v refl) }
+no-frame gs time = record { commit = λ z l. absurd (clash l refl); confirm = λ d z v. absurd (clash v refl) }
 
 clock-kind : (t : List ℕ) (time k : ℕ) → Whole (lookBy (decodeTable t) (found.At k)) → State (lookBy (decodeTable t) (found.At k) .run .state)
     → Does (groupsIn t) (expire time) (lookBy (decodeTable t) (found.At k)) (clockStep (decodeTable t) k time)

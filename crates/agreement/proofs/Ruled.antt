@@ -22,14 +22,14 @@ use Rattle.rules.specs.declared.Frames.the-variants.{One}
 use Rattle.rules.specs.Message.{Message}
 use Rattle.rules.specs.declared.Act.{Act}
 use Rattle.rules.specs.declared.Act.the-variants.{Drop, RefuseGroup, AskToken, NoSlot, AnswerCommit, ConfirmCommit, ReplyToken, SwitchGroup, RepeatCommit, RepeatRefusal, ResendBoth, ConfirmAgain, GiveUp, Accept, HearAgain, HearLast, EndLink, Begin}
-use Rattle.rules.specs.Parts.{counting, withToken, switched, heardAgain, withRun, withLink}
+use Rattle.rules.specs.Parts.{withSync, withSc, withToken, switched, heardAgain, withRun, withLink}
 use Rattle.rules.specs.Book.{_is_, _isnt_, _above_, holds, Timing, Terms, silence, inCommitted, inConfirmed, hasLink, unsupported, linked, lacksToken, wrongToken, equalsFresh, equalsOwn, unverified, outranks, noSlot, spent, linkSpent, t0Due, setT0, sending, answering, refusing, settled, abandoning, endingLink, retransmitting, dropping, formedRun, forming, startedRun, starting, switchingTo, switching, linkOfRun, accepting, answeringCommit, confirmingCommit, replyingToken, repeatingCommit, repeatingRefusal, confirmingAgain, resendingBoth, hearingLast, hearingAgain, startAct, commitIdle, commitCommitted, commitConfirmed, confirmCommitted, confirmConfirmed, confirmLinked, clockAct, commitAct, confirmAct, frameAct, perform, onFrame, onClock, onStart}
 use Rattle.rules.specs.Book as book
 use Rattle.rules.specs.Asked.{NoRun, Asked, refuse-group, ask-token, no-slot, begin, answer-commit, confirm-commit, reply-token, switch-group, repeat-commit, repeat-refusal, resend-both, confirm-again, give-up, accept, hear-again, hear-last, end-link, drop}
 use Rattle.rules.proofs.Ladders.{frame-asked, clock-asked}
 use Rattle.agreement.specs.Calls.{Call}
-use Rattle.agreement.specs.Story.{isStart, isFrame, stockOf, getsTokenRequest}
-use Rattle.agreement.proofs.Rules.{either, Whole, SameRun, SameLink, Afresh, Committed, Confirmed, Hears, Verified, Does, quiet, informs, starts, switches, forms-fresh, forms-own, repeats, replies, repeats-both, repeats-confirm, accepts, abandons, ends, answers}
+use Rattle.agreement.specs.Story.{isStart, isFrame, stockOf}
+use Rattle.agreement.proofs.Rules.{either, Whole, SameRun, SameLink, Afresh, Hears, Verified, Does, quiet, informs, starts, switches, forms-fresh, forms-own, repeats, repeats-both, repeats-confirm, accepts, abandons, ends, answers}
 
 -- the run state is 0, 1 or 2
 pub data State (n : ℕ) : Type 0 where
@@ -56,15 +56,13 @@ states (confirmed e) = inr (inr e)
 
 pub record Heard (gs : List ℕ) (c : Call) (m : Message) (verdict : Bool) : Type 0 where
   pub commit : m .status ≡ 0 → m .listed ≡ true → Hears gs c (m .group) (m .commit) × (listed gs (m .group) ≡ true)
-  pub request : (m .sequence is 1) ≡ true → m .status ≡ 76 → getsTokenRequest gs c ≡ true
-  pub other : (m .status ≡ 76 → ⊥) → getsTokenRequest gs c ≡ false
   pub confirm : (m .sequence ≡ 1 → ⊥) → m .status ≡ 0 → verdict ≡ true → Verified gs c
 
 pub record Stocked (gs : List ℕ) (c : Call) : Type 0 where
   pub group : (g : ℕ) → listed gs g ≡ true → Afresh gs c g (freshFor gs (stockOf c) g)
   pub place : (i g : ℕ) → i < length gs → getD gs i 0 ≡ g → Afresh gs c g (freshAt (stockOf c) i)
 
--- ---- which acts a Commit names, and which every other message: a token is stored and a commit used afresh for a Commit alone, and none begins
+-- ---- which acts a Commit names, and which every other message: a commit is used afresh for a Commit alone, and none begins
 
 unfoldable fits : Bool → Act → Bool
 fits commit Drop = true
@@ -73,7 +71,7 @@ fits commit AskToken = true
 fits commit NoSlot = true
 fits commit AnswerCommit = commit
 fits commit ConfirmCommit = true
-fits commit ReplyToken = commit
+fits commit ReplyToken = true
 fits commit SwitchGroup = commit
 fits commit RepeatCommit = true
 fits commit RepeatRefusal = true
@@ -194,22 +192,26 @@ module _ (gs : List ℕ) (c : Call) (τ : Timing) (p : Peer) (n : isStart c ≡ 
   low x l = omega arith
 
   -- Repeat in Committed, and in Confirmed
-  retransmitted : (x g time : ℕ) → getsTokenRequest gs c ≡ false → p .run .state ≡ 1
-      → Does gs c p (retransmitting τ p (p .run .sc) (One (record { sequence = 1; status = x; group = g; counter = 0 })) time)
-  unfolding retransmitting sending withRun setT0 counting
-  retransmitted x g time k s =
+  retransmitted : (r : Run) (x g time : ℕ) → p .run .state ≡ 1 → r .state ≡ 1 → r .group ≡ p .run .group → r .own ≡ p .run .own
+      → Does gs c p (retransmitting τ p r (One (record { sequence = 1; status = x; group = g; counter = 0 })) time)
+  unfolding retransmitting sending withRun setT0 withSync
+  retransmitted r x g time s z u o =
       either (Does gs c p) (p .run .sync above τ .limit) (λ e. abandoned)
-      (λ e. repeats n k s (low _ (ltb-false _ _ e)) (record { state = s; sync = refl; group = refl; own = refl }) refl)
+      (λ e. repeats n s (low _ (ltb-false _ _ e)) (record { state = z; sync = refl; group = u; own = o }) refl)
 
-  confirmed-again : (time : ℕ) → getsTokenRequest gs c ≡ false → p .run .state ≡ 2 → Does gs c p (confirmingAgain τ p time)
-  unfolding confirmingAgain retransmitting sending withRun setT0 counting
-  confirmed-again time k s =
+  replied : (m : Message) (time : ℕ) → p .run .state ≡ 1 → Does gs c p (replyingToken τ p m time)
+  unfolding replyingToken withToken
+  replied m time s = retransmitted (withToken (p .run) (m .toklen) (m .token)) 0 (p .run .group) time s s refl refl
+
+  confirmed-again : (time : ℕ) → p .run .state ≡ 2 → Does gs c p (confirmingAgain τ p time)
+  unfolding confirmingAgain retransmitting sending withRun setT0 withSync withSc
+  confirmed-again time s =
       either (Does gs c p) (p .run .sync above τ .limit) (λ e. abandoned)
-      (λ e. repeats-confirm n k s (low _ (ltb-false _ _ e)) (record { state = s; sync = refl; sc = refl; group = refl; own = refl; peer = refl }) refl)
+      (λ e. repeats-confirm n s (low _ (ltb-false _ _ e)) (record { state = s; sync = refl; sc = refl; group = refl; own = refl; peer = refl }) refl)
 
-  resent : (time : ℕ) → getsTokenRequest gs c ≡ false → p .run .state ≡ 2 → p .run .sync ≤ τ .limit → Does gs c p (resendingBoth τ p time)
-  unfolding resendingBoth sending withRun setT0 counting
-  resent time k s l = repeats-both n k s (low _ l) (record { state = s; sync = refl; sc = refl; group = refl; own = refl; peer = refl }) refl
+  resent : (time : ℕ) → p .run .state ≡ 2 → p .run .sync ≤ τ .limit → Does gs c p (resendingBoth τ p time)
+  unfolding resendingBoth sending withRun setT0 withSync withSc
+  resent time s l = repeats-both n s (low _ l) (record { state = s; sync = refl; sc = refl; group = refl; own = refl; peer = refl }) refl
 
   -- Form
   formed-fresh : (address : List ℕ) (m : Message) (own : List ℕ) (time : ℕ) → (p .run .state ≡ 0) ⊎ (p .run .state ≡ 1) → Afresh gs c (m .group) own
@@ -222,10 +224,6 @@ module _ (gs : List ℕ) (c : Call) (τ : Timing) (p : Peer) (n : isStart c ≡ 
   unfolding confirmingCommit forming formedRun setT0
   formed-own address m time s e k =
       forms-own n s (subst (λ (x : ℕ). Hears gs c x (m .commit)) e k) (record { state = refl; sync = refl; sc = refl; group = e; own = refl; peer = refl }) refl
-
-  replied : (m : Message) (time : ℕ) → p .run .state ≡ 1 → getsTokenRequest gs c ≡ true → Does gs c p (replyingToken τ p m time)
-  unfolding replyingToken sending withRun setT0 withToken
-  replied m time s k = replies n k s (record { state = s; sync = refl; group = refl; own = refl }) refl
 
   switched-to : (rejected : ℕ) (k : Choice) (time : ℕ) → firstLeft gs 0 rejected ≡ k → p .run .state ≡ 1 → Stocked gs c
       → Does gs c p (switchingTo τ p rejected k (stockOf c) time)
@@ -253,9 +251,6 @@ module _ (gs : List ℕ) (c : Call) (τ : Timing) (p : Peer) (n : isStart c ≡ 
 
 -- ---- the rules
 
-not-76 : {n : ℕ} → n ≡ 0 → n ≡ 76 → ⊥
-not-76 e f = omega arith
-
 module _ (t : Terms) (b : book.Call) (c : Call) (p : Peer) (m : Message) (n : isStart c ≡ false) (five : t .timing .limit ≡ 5) (same : b .fresh ≡ stockOf c)
     (W : Whole p) (z : State (p .run .state)) (H : Heard (t .groups) c m (b .verified)) (S : (m .sequence is 1) ≡ true → Stocked (t .groups) c) where
   act-does : {a : Act} → Asked t b p m a → fits (m .sequence is 1) a ≡ true → Does (t .groups) c p (perform t b p m a)
@@ -270,14 +265,14 @@ module _ (t : Terms) (b : book.Call) (c : Call) (p : Peer) (m : Message) (n : is
       formed-fresh (t .groups) c (t .timing) p n five W (b .address) m _ (b .time) (unconfirmed z d)
       (subst (λ (x : List ℕ). Afresh (t .groups) c (m .group) (freshFor (t .groups) x (m .group))) (sym same) w) (k .0)
   act-does (confirm-commit s o g e) f = formed-own (t .groups) c (t .timing) p n five W (b .address) m (b .time) s g (H .commit (o .status) (o .listed) .0)
-  act-does (reply-token s q g) f = replied (t .groups) c (t .timing) p n five W m (b .time) s (H .request f q)
+  act-does (reply-token s q g) f = replied (t .groups) c (t .timing) p n five W m (b .time) s
   act-does (switch-group s q g) f =
       subst (λ (x : List ℕ). Does (t .groups) c p (switching (t .timing) p (t .groups) x (b .time))) (sym same)
       (switched-over (t .groups) c (t .timing) p n five W (b .time) s (S f))
-  act-does (repeat-commit s q) f = retransmitted (t .groups) c (t .timing) p n five W 0 (p .run .group) (b .time) (H .other (not-76 q)) s
-  act-does (repeat-refusal s q l) f = retransmitted (t .groups) c (t .timing) p n five W 77 (m .group) (b .time) (H .other (not-76 q)) s
-  act-does (resend-both s q l g) f = resent (t .groups) c (t .timing) p n five W (b .time) (H .other (not-76 q)) s l
-  act-does (confirm-again s q) f = confirmed-again (t .groups) c (t .timing) p n five W (b .time) (H .other (not-76 q)) s
+  act-does (repeat-commit s q) f = retransmitted (t .groups) c (t .timing) p n five W (p .run) 0 (p .run .group) (b .time) s s refl refl
+  act-does (repeat-refusal s q l) f = retransmitted (t .groups) c (t .timing) p n five W (p .run) 77 (m .group) (b .time) s s refl refl
+  act-does (resend-both s q l g) f = resent (t .groups) c (t .timing) p n five W (b .time) s l
+  act-does (confirm-again s q) f = confirmed-again (t .groups) c (t .timing) p n five W (b .time) s
   act-does (give-up s q l) f = abandoned (t .groups) c (t .timing) p n five W
   act-does (accept s d q v) f = accepted (t .groups) c (t .timing) p n five W (m .counter) (b .time) s (H .confirm d q v)
   act-does (hear-again r d l h v) f = heard-again (t .groups) c (t .timing) p n five W (m .counter) (without p z r) d

@@ -16,7 +16,7 @@ use Rattle.rules.specs.declared.Frames.the-variants as frames
 use Rattle.rules.specs.declared.Event.the-variants as event
 use Rattle.rules.specs.Book.{_isnt_, Step, commitFrame, confirmFrame, supersede}
 use Rattle.agreement.specs.Calls.{Call, receive}
-use Rattle.agreement.specs.Story.{isStart, isFrame, frameOf, stockOf, getsTokenRequest}
+use Rattle.agreement.specs.Story.{isStart, isFrame, frameOf, stockOf}
 
 -- what holds of both arms, each under its test, holds of the whole
 pub either : {A : Type 0} (P : A → Type 0) (b : Bool) {x y : A} → (b ≡ true → P x) → (b ≡ false → P y) → P (if b then x else y)
@@ -103,18 +103,15 @@ pub data Does (gs : List ℕ) (c : Call) (p : Peer) : Step → Type 0 where
   forms-own : {q : Peer} {theirs : List ℕ} → isStart c ≡ false → p .run .state ≡ 1
       → Hears gs c (p .run .group) theirs → Confirmed q 0 1 (p .run .group) (p .run .own) theirs → q .link ≡ supersede (p .link)
       → Does gs c p (record { peer = q; event = event.None; frames = frames.One (confirmFrame 1); afresh = 0; refused = false })
-  -- a repeat in Committed, and the reply to a 76
-  repeats : {q : Peer} {x g : ℕ} → isStart c ≡ false → getsTokenRequest gs c ≡ false → p .run .state ≡ 1 → p .run .sync ≤ 5
+  -- a repeat in Committed, the reply to a 76 among them
+  repeats : {q : Peer} {x g : ℕ} → isStart c ≡ false → p .run .state ≡ 1 → p .run .sync ≤ 5
       → Committed q (p .run .sync + 1) (p .run .group) (p .run .own) → q .link ≡ p .link
       → Does gs c p (record { peer = q; event = event.None; frames = frames.One (record { sequence = 1; status = x; group = g; counter = 0 }); afresh = 0; refused = false })
-  replies : {q : Peer} {g : ℕ} → isStart c ≡ false → getsTokenRequest gs c ≡ true → p .run .state ≡ 1
-      → Committed q (p .run .sync) (p .run .group) (p .run .own) → q .link ≡ p .link
-      → Does gs c p (record { peer = q; event = event.None; frames = frames.One (commitFrame g); afresh = 0; refused = false })
   -- a repeat in Confirmed, of Commit and Confirm or of the Confirm
-  repeats-both : {q : Peer} {g : ℕ} → isStart c ≡ false → getsTokenRequest gs c ≡ false → p .run .state ≡ 2 → p .run .sync ≤ 5
+  repeats-both : {q : Peer} {g : ℕ} → isStart c ≡ false → p .run .state ≡ 2 → p .run .sync ≤ 5
       → Confirmed q (p .run .sync + 1) (p .run .sc + 1) (p .run .group) (p .run .own) (p .run .peer) → q .link ≡ p .link
       → Does gs c p (record { peer = q; event = event.None; frames = frames.Two (commitFrame g) (confirmFrame (p .run .sc + 1)); afresh = 0; refused = false })
-  repeats-confirm : {q : Peer} → isStart c ≡ false → getsTokenRequest gs c ≡ false → p .run .state ≡ 2 → p .run .sync ≤ 5
+  repeats-confirm : {q : Peer} → isStart c ≡ false → p .run .state ≡ 2 → p .run .sync ≤ 5
       → Confirmed q (p .run .sync + 1) (p .run .sc + 1) (p .run .group) (p .run .own) (p .run .peer) → q .link ≡ p .link
       → Does gs c p (record { peer = q; event = event.None; frames = frames.One (confirmFrame (p .run .sc + 1)); afresh = 0; refused = false })
   -- the run becomes the link

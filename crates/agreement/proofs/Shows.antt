@@ -10,8 +10,9 @@ use lib.Dec.{eqb}
 use lib.ListN.{take}
 use borrow.Author.Tests.{eqb-true, ne-eqb}
 use Rattle.protocol.specs.Model.{Commit}
-use Rattle.protocol.specs.Repeats.{Tally, AtMost, run}
+use Rattle.protocol.specs.Repeats.{Tally, latest, AtMost, run}
 use Rattle.protocol.proofs.Repeats.{begun-at-most, more-at-most}
+use Rattle.octets.proofs.Scan.{clash}
 use Rattle.groups.specs.Groups.{stored, commitLength}
 use Rattle.record.specs.declared.Run.{Run}
 use Rattle.record.specs.declared.Link.{Link}
@@ -25,7 +26,7 @@ use Rattle.agreement.specs.Calls.{Call}
 use Rattle.agreement.specs.Story.{Pair, unlinked, finished, marked, Story, answered, told, cleared}
 use Rattle.agreement.specs.Story as story
 use Rattle.agreement.specs.Statement.{Says, no-link, a-link}
-use Rattle.agreement.proofs.Rules.{either, Whole, SameRun, SameLink, Confirmed, Does, quiet, informs, starts, switches, forms-fresh, forms-own, repeats, replies, repeats-both, repeats-confirm, accepts, abandons, ends, answers}
+use Rattle.agreement.proofs.Rules.{either, Whole, SameRun, SameLink, Does, quiet, informs, starts, switches, forms-fresh, forms-own, repeats, repeats-both, repeats-confirm, accepts, abandons, ends, answers}
 use Rattle.agreement.proofs.Ruled.{State, idle, committed, confirmed, no-run-state}
 
 pub impossible : {X : Type 0} (n : ℕ) {a b : ℕ} → n ≡ a → n ≡ b → (a ≡ b → ⊥) → X
@@ -71,6 +72,15 @@ run-free (paired e a b c d f g) z = zero-two z e
 link-free : {l : story.Link} {k : Link} → Says l k → k .finished ≡ 0 → k ≡ noLink
 link-free no-link z = refl
 link-free (a-link f a b c d) z = zero-one z f
+
+-- Sync counts the run's repeats since it began or, once its pair stands, since then
+run-counts : {r : Run} {b d : Bool} {f : Commit} {p : Pair} {ks : List Tally} → RunShows r b d f p ks → b ≡ true → r .sync ≡ latest d ks
+run-counts (no-run e) q = absurd (clash q refl)
+run-counts (unpaired e a b c d z) q = sym d
+run-counts (paired e a b c d g z) q = sym z
+
+pub shows-counts : (p : Peer) (s : Story) → Shows p s → s .running ≡ true → p .run .sync ≡ latest (s .stands) (s .runs)
+shows-counts p s S q = run-counts (S .run) q
 
 pub shows-state : (p : Peer) (s : Story) → Shows p s → State (p .run .state)
 shows-state p s S = run-state (S .run)
@@ -143,23 +153,19 @@ module _ (gs : List ℕ) (c : Call) (a : List ℕ) (l : story.Link) where
       rw (n, H .frame, H .reads)
       (paired (C .state) (sym (C .group)) (b ∙ sym (C .own)) (sym (C .peer ∙ H .stored-as)) (rw (C .group, C .own) c) (rw (C .sc, C .sync)) (z ∙ sym (C .sync)))
   run-kept (forms-own n s H C k) (paired e a b c d g z) = one-two s e
-  run-kept (repeats n q s m C k) (no-run e) = zero-one (no-run-state _ e) s
-  run-kept (repeats n q s m C k) (unpaired e a b c d z) =
-      rw (n, q) (unpaired (C .state) (a ∙ sym (C .group)) (b ∙ sym (C .own)) (rw (C .group, C .own) c) (ap suc d ∙ sym (C .sync ∙ add-one _)) z)
-  run-kept (repeats n q s m C k) (paired e a b c d g z) = one-two s e
-  run-kept (replies n q s C k) (no-run e) = zero-one (no-run-state _ e) s
-  run-kept (replies n q s C k) (unpaired e a b c d z) =
-      rw (n, q) (unpaired (C .state) (a ∙ sym (C .group)) (b ∙ sym (C .own)) (rw (C .group, C .own) c) (d ∙ sym (C .sync)) z)
-  run-kept (replies n q s C k) (paired e a b c d g z) = one-two s e
-  run-kept (repeats-both n q s m C k) (no-run e) = zero-two (no-run-state _ e) s
-  run-kept (repeats-both n q s m C k) (unpaired e a b c d z) = one-two e s
-  run-kept (repeats-both n q s m C k) (paired e a b c d g z) =
-      rw (n, q, not-one _ _ g)
+  run-kept (repeats n s m C k) (no-run e) = zero-one (no-run-state _ e) s
+  run-kept (repeats n s m C k) (unpaired e a b c d z) =
+      rw n (unpaired (C .state) (a ∙ sym (C .group)) (b ∙ sym (C .own)) (rw (C .group, C .own) c) (ap suc d ∙ sym (C .sync ∙ add-one _)) z)
+  run-kept (repeats n s m C k) (paired e a b c d g z) = one-two s e
+  run-kept (repeats-both n s m C k) (no-run e) = zero-two (no-run-state _ e) s
+  run-kept (repeats-both n s m C k) (unpaired e a b c d z) = one-two e s
+  run-kept (repeats-both n s m C k) (paired e a b c d g z) =
+      rw (n, not-one _ _ g)
       (paired (C .state) (a ∙ sym (C .group)) (b ∙ sym (C .own)) (c ∙ sym (C .peer)) (rw (C .group, C .own) d) (rw (C .sc, C .sync, g)) (ap suc z ∙ sym (C .sync ∙ add-one _)))
-  run-kept (repeats-confirm n q s m C k) (no-run e) = zero-two (no-run-state _ e) s
-  run-kept (repeats-confirm n q s m C k) (unpaired e a b c d z) = one-two e s
-  run-kept (repeats-confirm n q s m C k) (paired e a b c d g z) =
-      rw (n, q, not-one _ _ g)
+  run-kept (repeats-confirm n s m C k) (no-run e) = zero-two (no-run-state _ e) s
+  run-kept (repeats-confirm n s m C k) (unpaired e a b c d z) = one-two e s
+  run-kept (repeats-confirm n s m C k) (paired e a b c d g z) =
+      rw (n, not-one _ _ g)
       (paired (C .state) (a ∙ sym (C .group)) (b ∙ sym (C .own)) (c ∙ sym (C .peer)) (rw (C .group, C .own) d) (rw (C .sc, C .sync, g)) (ap suc z ∙ sym (C .sync ∙ add-one _)))
   run-kept (accepts n s v k i j g x y) (no-run e) = zero-two (no-run-state _ e) s
   run-kept (accepts n s v k i j g x y) (unpaired e a b c d z) = one-two e s
@@ -195,14 +201,13 @@ module _ (gs : List ℕ) (c : Call) (a : List ℕ) where
   link-kept (switches n s A C k) r h = unmarked (kept-says k h)
   link-kept (forms-fresh n s A H C k) r h = rw (H .frame) (kept-says k (superseded h))
   link-kept (forms-own n s H C k) r h = rw (H .frame) (kept-says k (superseded h))
-  link-kept (repeats n q s m C k) r h = unmarked (kept-says k h)
-  link-kept (replies n q s C k) r h = unmarked (kept-says k h)
-  link-kept (repeats-both n q s m C k) (no-run e) h = zero-two (no-run-state _ e) s
-  link-kept (repeats-both n q s m C k) (unpaired e a b c d z) h = one-two e s
-  link-kept (repeats-both n q s m C k) (paired e a b c d g z) h = rw (not-one _ _ g) (unmarked (kept-says k h))
-  link-kept (repeats-confirm n q s m C k) (no-run e) h = zero-two (no-run-state _ e) s
-  link-kept (repeats-confirm n q s m C k) (unpaired e a b c d z) h = one-two e s
-  link-kept (repeats-confirm n q s m C k) (paired e a b c d g z) h = rw (not-one _ _ g) (unmarked (kept-says k h))
+  link-kept (repeats n s m C k) r h = unmarked (kept-says k h)
+  link-kept (repeats-both n s m C k) (no-run e) h = zero-two (no-run-state _ e) s
+  link-kept (repeats-both n s m C k) (unpaired e a b c d z) h = one-two e s
+  link-kept (repeats-both n s m C k) (paired e a b c d g z) h = rw (not-one _ _ g) (unmarked (kept-says k h))
+  link-kept (repeats-confirm n s m C k) (no-run e) h = zero-two (no-run-state _ e) s
+  link-kept (repeats-confirm n s m C k) (unpaired e a b c d z) h = one-two e s
+  link-kept (repeats-confirm n s m C k) (paired e a b c d g z) h = rw (not-one _ _ g) (unmarked (kept-says k h))
   link-kept (accepts n s v k i j g x y) (no-run e) h = zero-two (no-run-state _ e) s
   link-kept (accepts n s v k i j g x y) (unpaired e a b c d z) h = one-two e s
   link-kept (accepts n s v k i j g x y) (paired e a b c d w z) h = a-link i j (g ∙ sym a) (x ∙ sym b) (y ∙ sym c)
@@ -232,20 +237,17 @@ module _ (gs : List ℕ) (c : Call) (a : List ℕ) where
   six-kept l (forms-own n s H C k) (no-run e) h = zero-one (no-run-state _ e) s
   six-kept l (forms-own n s H C k) (unpaired e a b c d z) h = rw (n, H .frame) h
   six-kept l (forms-own n s H C k) (paired e a b c d g z) h = one-two s e
-  six-kept l (repeats n q s m C k) (no-run e) h = zero-one (no-run-state _ e) s
-  six-kept l (repeats n q s m C k) (unpaired {k = t} {ks = ts} e a b c d z) h = rw (n, q) (let y : t .before ≤ 5 = rw d m in more-at-most 5 false (t ∷ ts) y h)
-  six-kept l (repeats n q s m C k) (paired e a b c d g z) h = one-two s e
-  six-kept l (replies n q s C k) (no-run e) h = zero-one (no-run-state _ e) s
-  six-kept l (replies n q s C k) (unpaired e a b c d z) h = rw (n, q) h
-  six-kept l (replies n q s C k) (paired e a b c d g z) h = one-two s e
-  six-kept l (repeats-both n q s m C k) (no-run e) h = zero-two (no-run-state _ e) s
-  six-kept l (repeats-both n q s m C k) (unpaired e a b c d z) h = one-two e s
-  six-kept l (repeats-both n q s m C k) (paired {k = t} {ks = ts} e a b c d g z) h =
-      rw (n, q, not-one _ _ g) (let y : t .after ≤ 5 = rw z m in more-at-most 5 true (t ∷ ts) y h)
-  six-kept l (repeats-confirm n q s m C k) (no-run e) h = zero-two (no-run-state _ e) s
-  six-kept l (repeats-confirm n q s m C k) (unpaired e a b c d z) h = one-two e s
-  six-kept l (repeats-confirm n q s m C k) (paired {k = t} {ks = ts} e a b c d g z) h =
-      rw (n, q, not-one _ _ g) (let y : t .after ≤ 5 = rw z m in more-at-most 5 true (t ∷ ts) y h)
+  six-kept l (repeats n s m C k) (no-run e) h = zero-one (no-run-state _ e) s
+  six-kept l (repeats n s m C k) (unpaired {k = t} {ks = ts} e a b c d z) h = rw n (let y : t .before ≤ 5 = rw d m in more-at-most 5 false (t ∷ ts) y h)
+  six-kept l (repeats n s m C k) (paired e a b c d g z) h = one-two s e
+  six-kept l (repeats-both n s m C k) (no-run e) h = zero-two (no-run-state _ e) s
+  six-kept l (repeats-both n s m C k) (unpaired e a b c d z) h = one-two e s
+  six-kept l (repeats-both n s m C k) (paired {k = t} {ks = ts} e a b c d g z) h =
+      rw (n, not-one _ _ g) (let y : t .after ≤ 5 = rw z m in more-at-most 5 true (t ∷ ts) y h)
+  six-kept l (repeats-confirm n s m C k) (no-run e) h = zero-two (no-run-state _ e) s
+  six-kept l (repeats-confirm n s m C k) (unpaired e a b c d z) h = one-two e s
+  six-kept l (repeats-confirm n s m C k) (paired {k = t} {ks = ts} e a b c d g z) h =
+      rw (n, not-one _ _ g) (let y : t .after ≤ 5 = rw z m in more-at-most 5 true (t ∷ ts) y h)
   six-kept l (accepts n s v k i j g x y) (no-run e) h = zero-two (no-run-state _ e) s
   six-kept l (accepts n s v k i j g x y) (unpaired e a b c d z) h = one-two e s
   six-kept l (accepts n s v k i j g x y) (paired e a b c d w z) h = rw n h

@@ -76,5 +76,5 @@ pub record Demand3 (own : Side → List ℕ) (h : List Entry) : Type 0 where
   -- (c) every finished link with the other: the other formed the same pair in a call of the list
   pub formed : Premises own h → (X : Side) (p : Pair) (mark : Bool) → storyOf h X (own (other X)) .link ≡ finished p mark
       → Formed (other X) (own X) (exchanged p) h
-  -- (d) every run at every address has at most six repeats before its pair stands and six after, token replies aside
+  -- (d) every run at every address has at most six repeats before its pair stands and six after
   pub six : (X : Side) (a : List ℕ) → AtMost 6 (storyOf h X a .runs)

@@ -17,8 +17,7 @@ use Rattle.rules.specs.declared.Frames.the-variants as frames
 use Rattle.rules.specs.declared.Event.{Event}
 use Rattle.rules.specs.declared.Event.the-variants as event
 use Rattle.rules.specs.Book.{_is_, _isnt_}
-use Rattle.message.specs.declared.View.{View}
-use Rattle.message.specs.View.{view, message}
+use Rattle.message.specs.View.{message}
 use Rattle.answers.specs.declared.Answer.{Answer}
 use Rattle.agreement.specs.Calls.{Call, initialize, initiate, kill, receive, expire, write, Entry, left, done, isInitialize, mine, tableOf}
 
@@ -93,13 +92,6 @@ stockOf (write w) = []
 abbrev pub heard : List ℕ → Call → Commit
 heard groups c = record { group = message groups (frameOf c) .group; octets = message groups (frameOf c) .commit }
 
--- a 76
-abbrev pub isTokenRequest : View → Bool
-isTokenRequest v = (v .sequence is 1) && (v .status is 76)
-
-abbrev pub getsTokenRequest : List ℕ → Call → Bool
-getsTokenRequest groups c = isFrame c && isTokenRequest (view groups (frameOf c))
-
 -- ---- what an answer has
 
 abbrev pub someFrame : (Frame → Bool) → Frames → Bool
@@ -155,9 +147,9 @@ linkBy event.Abandoned forms p l = l
 linkBy event.Ended forms p l = unlinked
 
 -- ---- what a call does to the story. `starts`: it is a start; `afresh`: it uses the commit `used` afresh; `forms`: it forms a pair with the commit
--- `theirs`; `said`: its event; `sending`: it sends; `asked`: it gets a 76
+-- `theirs`; `said`: its event; `sending`: it sends
 
-module _ (starts afresh : Bool) (used : Commit) (forms : Bool) (theirs : Commit) (said : Event) (sending asked : Bool) where
+module _ (starts afresh : Bool) (used : Commit) (forms : Bool) (theirs : Commit) (said : Event) (sending : Bool) where
   abbrev pub freshAfter : Story → Commit
   freshAfter s = if afresh then used else s .fresh
 
@@ -181,9 +173,9 @@ module _ (starts afresh : Bool) (used : Commit) (forms : Bool) (theirs : Commit)
   abbrev pub linkAfter : Story → Link
   linkAfter s = linkBy said forms (pairAfter s) (s .link)
 
-  -- "A repeat is a call in a run that sends, uses nothing afresh, forms nothing and is not the reply to a 76 (the token reply)."
+  -- "A repeat is a call in a run that sends, uses nothing afresh, forms nothing": the reply to a 76 is one too (request j)
   abbrev pub repeats : Story → Bool
-  repeats s = s .running && (sending && (not afresh && (not forms && not asked)))
+  repeats s = s .running && (sending && (not afresh && not forms))
 
   abbrev pub runsAfter : Story → List Tally
   runsAfter s =
@@ -198,7 +190,7 @@ module _ (starts afresh : Bool) (used : Commit) (forms : Bool) (theirs : Commit)
 -- the call c with the answer r
 abbrev pub answered : List ℕ → Call → Answer → Story → Story
 answered groups c r s =
-    told (isStart c) (usesAfresh r) (usedAfresh groups c r) (formsPair c r) (heard groups c) (r .event) (sends (r .frames)) (getsTokenRequest groups c) s
+    told (isStart c) (usesAfresh r) (usedAfresh groups c r) (formsPair c r) (heard groups c) (r .event) (sends (r .frames)) s
 
 -- a kill or a set up ends run and link
 abbrev pub clears : Call → Bool

@@ -119,6 +119,10 @@ commitOctets rest = head 1 0 19 ++ replicate rest 7
 abbrev pub confirmOctets : ℕ → ℕ → List ℕ
 confirmOctets counter rest = head 2 0 counter ++ replicate rest 7
 
+-- a 76 for a group with a token of 32 octets
+abbrev pub requestOctets : ℕ → List ℕ
+requestOctets group = head 1 76 group ++ replicate 32 5
+
 -- ---- answers as numbers
 
 abbrev pub frameNumbers : Frame → List ℕ
@@ -178,6 +182,8 @@ pub data Question : Type 0 where
   Expired : ℕ → ℕ → Question
   -- a link with a Sync and Rc gets a Confirm with a counter and a verdict: the act, Rc and Sync left, frames
   Confirmed : ℕ → ℕ → ℕ → ℕ → Question
+  -- started at reading 0, so many 76s for the run's group heard, then one for a group: the act; event, run state, Sync, t0 and token length left; frames
+  Requested : ℕ → ℕ → Question
   -- with so many Open, a Commit without a token from a new peer: the act, stock group used, frames
   Offered : ℕ → Question
 
@@ -192,6 +198,10 @@ heard T f a time frame verdict =
 
 abbrev pub sayExpired : Act → Step → List ℕ
 sayExpired a s = named a ∷ eventNumber (s .event) ∷ s .peer .run .sync ∷ framesNumbers (s .frames)
+
+abbrev pub sayRequested : Act → Step → List ℕ
+sayRequested a s =
+    named a ∷ eventNumber (s .event) ∷ s .peer .run .state ∷ s .peer .run .sync ∷ s .peer .run .t0 ∷ s .peer .run .toklen ∷ framesNumbers (s .frames)
 
 abbrev pub sayConfirmed : Act → Step → List ℕ
 sayConfirmed a s = named a ∷ s .peer .link .rc ∷ s .peer .link .sync ∷ framesNumbers (s .frames)
@@ -212,6 +222,17 @@ answerDueAfter T frame time later =
     named (heard T (found.At 7) (address 1) time frame 0)
     ∷ slotNumbers (dueSlot (placed T 7 (frameStep T (found.At 7) (address 1) time frame stock expected 0 .peer)) later)
 
+-- the step of a 76 for a group that comes to a record at reading 0, and the record after a start and so many for its own group
+abbrev pub requestStep : Peer → ℕ → Step
+requestStep p group = frameStep (placed empty 7 p) (found.At 7) (address 1) 0 (requestOctets group) stock expected 0
+
+abbrev pub requested : ℕ → Peer
+requested zero = started 0
+requested (suc n) = requestStep (requested n) 19 .peer
+
+abbrev pub answerRequested : Peer → ℕ → List ℕ
+answerRequested p group = sayRequested (heard (placed empty 7 p) (found.At 7) (address 1) 0 (requestOctets group) 0) (requestStep p group)
+
 abbrev pub answerOffered : Table → List ℕ → List ℕ
 answerOffered T frame = sayOffered (heard T found.Nothing (address 100) 0 frame 1) (frameStep T found.Nothing (address 100) 0 frame stock expected 1)
 
@@ -222,6 +243,7 @@ answer (Due time later) = slotNumbers (dueSlot (placed empty 7 (started time)) l
 answer (DueAfter time heard later) = answerDueAfter (placed empty 7 (started time)) (commitOctets 96) heard later
 answer (Expired state sync) = answerExpired (placed empty 7 (running 1 state sync))
 answer (Confirmed sync rc counter verdict) = answerConfirmed (placed empty 7 (linked 1 sync rc)) (confirmOctets counter 32) verdict
+answer (Requested n group) = answerRequested (requested n) group
 answer (Offered n) = answerOffered (withOpen n) (commitOctets 96)
 
 -- ---- the table of cases
@@ -270,4 +292,10 @@ edges =
     -- request b: counter 65,535 with verdict 1 is no drop; nothing is sent, and Rc becomes 65,535
     ∷ case (Confirmed 0 1 65535 1) (named HearLast ∷ 65535 ∷ 0 ∷ [])
     ∷ case (Confirmed 0 1 65535 0) (named Drop ∷ 1 ∷ 0 ∷ [])
+    -- request j: an access point answers 76 to every Commit. Each is answered with the token, t0 by the raised Sync; the seventh ends the run
+    ∷ case (Requested 0 19) (named ReplyToken ∷ 0 ∷ 1 ∷ 1 ∷ 80 ∷ 32 ∷ 1 ∷ 0 ∷ 19 ∷ 0 ∷ [])
+    ∷ case (Requested 5 19) (named ReplyToken ∷ 0 ∷ 1 ∷ 6 ∷ 2560 ∷ 32 ∷ 1 ∷ 0 ∷ 19 ∷ 0 ∷ [])
+    ∷ case (Requested 6 19) (named ReplyToken ∷ 2 ∷ 0 ∷ 0 ∷ 0 ∷ 0 ∷ [])
+    -- request j: a 76 for another group stays a drop, above the limit too
+    ∷ case (Requested 6 20) (named Drop ∷ 0 ∷ 1 ∷ 6 ∷ 2560 ∷ 32 ∷ [])
     ∷ []

@@ -20,9 +20,8 @@ use Rattle.rules.specs.declared.Frames.the-variants.{One}
 use Rattle.rules.specs.declared.Event.the-variants as event
 use Rattle.rules.specs.declared.Said.{Said}
 use Rattle.rules.specs.Parts.{withToken, switched, withRun}
-use Rattle.rules.specs.Book.{factory, deadline, delay, setT0, sending, startedRun, starting, replyingToken, commitFrame}
-use Rattle.rules.specs.Said.{Does, sayingFrames}
-use Rattle.rules.specs.Message.{Message}
+use Rattle.rules.specs.Book.{factory, deadline, delay, setT0, sending, startedRun, starting, commitFrame}
+use Rattle.rules.specs.Said.{Does}
 
 -- ---- the run's octets
 
@@ -48,21 +47,18 @@ pub sync-within : (s : List ℕ) (x : ℕ) → x ≡ num (part s 1 1) → decode
 unfolding decodeRun runOf runWidths cut
 sync-within s x e h = subst (λ (y : ℕ). y ≤ 6) (sym e) h
 
--- "store the token … set t0"
+-- "store the token"
 pub store-token-law :
-    (s a b t : List ℕ) (sync toklen at time : ℕ) (token : List ℕ) → sync ≡ num (part s 1 1) → at ≡ deadline time (delay factory sync) →
-    a ≡ put s 7 (oct 2 toklen) → b ≡ put a 9 (oct 4 at) → t ≡ put b 301 token → length s ≡ runSize width → length token ≡ 256 → toklen < 256 ^ 2 → at < 256 ^ 4 →
-    decodeRun width t ≡ setT0 factory (withToken (decodeRun width s) toklen token) time
-unfolding decodeRun runOf runWidths cut total setT0 withToken
-store-token-law s a b t sync toklen at time token n e q1 q2 q3 h l g k =
+    (s a t : List ℕ) (toklen : ℕ) (token : List ℕ) → a ≡ put s 7 (oct 2 toklen) → t ≡ put a 301 token → length s ≡ runSize width → length token ≡ 256 →
+    toklen < 256 ^ 2 → decodeRun width t ≡ withToken (decodeRun width s) toklen token
+unfolding decodeRun runOf runWidths cut total withToken
+store-token-law s a t toklen token q1 q2 h l g =
     let l0 : Laid (runWidths width) s (cut 0 (runWidths width) s) (runSize width) = laid (runWidths width) s (runSize width) h in
     let l1 = laid-put a 5 7 (oct 2 toklen) l0 (lit< tt) (length-oct 2 toklen) refl (omega (arith, length-oct 2 toklen)) q1 in
-    let l2 = laid-put b 6 9 (oct 4 at) l1 (lit< tt) (length-oct 4 at) refl (omega (arith, length-oct 4 at)) q2 in
-    let l3 = laid-put t 9 301 token l2 (lit< tt) l refl (omega arith) q3 in
+    let l2 = laid-put t 9 301 token l1 (lit< tt) l refl (omega arith) q2 in
     let r : Run = decodeRun width s in
     let v5 = num-oct 2 toklen g in
-    let v6 = num-oct 4 at k ∙ e ∙ ap (λ (y : ℕ). deadline time (delay factory y)) n in
-    ap runOf (l3 .cuts) ∙ (λ i. record { state = r .state; sync = r .sync; rejected = r .rejected; sc = r .sc; group = r .group; toklen = v5 i; t0 = v6 i; own = r .own; peer = r .peer; token = token })
+    ap runOf (l2 .cuts) ∙ (λ i. record { state = r .state; sync = r .sync; rejected = r .rejected; sc = r .sc; group = r .group; toklen = v5 i; t0 = r .t0; own = r .own; peer = r .peer; token = token })
 
 -- a change of group
 pub switch-run-law :
@@ -115,18 +111,6 @@ pub sent-law :
     Does x t (sending factory (decodePeer width s) r fs afresh time)
 unfolding sending withRun
 sent-law x s y t r fs afresh time e q z h k = record { leaves = ap (decodePeer width) q ∙ run-left s h y (setT0 factory r time) k e; says = z }
-
-pub reply-token-law :
-    (x : Said) (s y t : List ℕ) (m : Message) (token : List ℕ) (group time : ℕ) (f : Frame) → token ≡ m .token → group ≡ decodePeer width s .run .group →
-    decodeRun width y ≡ setT0 factory (withToken (decodeRun width (take (runSize width) (drop 7 s))) (m .toklen) token) time → t ≡ putMid 7 (runSize width) s y →
-    f ≡ commitFrame group → x ≡ sayingFrames (One f) → length s ≡ recordSize width → length y ≡ runSize width →
-    Does x t (replyingToken factory (decodePeer width s) m time)
-unfolding replyingToken withToken
-reply-token-law x s y t m token group time f o g e q j z h k =
-    let p = decodePeer width s in
-    let d : decodeRun width y ≡ setT0 factory (withToken (p .run) (m .toklen) (m .token)) time = e ∙ (λ i. setT0 factory (withToken (run-window s h i) (m .toklen) (o i)) time) in
-    let v : f ≡ commitFrame (p .run .group) = j ∙ ap commitFrame g in
-    sent-law x s y t (withToken (p .run) (m .toklen) (m .token)) (One (commitFrame (p .run .group))) 0 time d q (z ∙ ap (λ (u : Frame). sayingFrames (One u)) v) h k
 
 pub switch-to-law :
     (x : Said) (s y t : List ℕ) (rejected group : ℕ) (own : List ℕ) (time : ℕ) (f : Frame) →

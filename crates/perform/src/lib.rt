@@ -140,32 +140,6 @@ fn confirm_commit(s: &mut [u8], g: Given, v: View, body: &[u8]) -> Said
     )
 }
 
-// ---- ReplyToken
-
-// The run of "store the token … set t0", in its octets.
-fn store_token(r: &mut [u8], toklen: u16, token: [u8; 256], time: u32)
-    requires { ⌜ (length (now r) ≡ runSize width) × (decodeRun width (now r) .sync ≤ 6) ⌝ }
-    ensures { λ _. ⌜ decodeRun width (now (r .exit)) ≡ setT0 factory (withToken (decodeRun width (now (r .entry))) toklen token) time ⌝ }
-{
-    let sync = octets::get8(r, SYNC);
-    let at = deadlines::t0_at(time, sync);
-    octets::put16(r, TOKLEN, toklen);
-    octets::put32(r, T0, at);
-    octets::put256(r, RUN_TOKEN, token);
-}
-
-// "store the token, send Commit with it, set t0, not counted".
-fn reply_token(s: &mut [u8], v: View, body: &[u8], time: u32) -> Said
-    requires { ⌜ Whole (now s) × (v .toklen ≤ 256) ⌝ }
-    ensures { λ x. ⌜ Does x (now (s .exit)) (replyingToken factory (decodePeer width (now (s .entry))) (messageOf (now (body .entry)) v) time) ⌝ }
-{
-    let token = message::token(body, v);
-    let group = record::group_of(s);
-    store_token(&mut s[RUN..LINK], v.toklen, token, time);
-    let commit = acts::commit_frame(group);
-    acts::say_frames(Frames::One(commit))
-}
-
 // ---- SwitchGroup
 
 // The run of a change of group, in its octets.
@@ -257,6 +231,27 @@ fn resend_both(s: &mut [u8], time: u32) -> Said
     let commit = acts::commit_frame(group);
     let confirm = acts::confirm_frame(sc);
     acts::send_counted(s, sync, sc, Frames::Two(commit, confirm), time)
+}
+
+// ---- ReplyToken
+
+// The run with another token, in its octets.
+fn store_token(r: &mut [u8], toklen: u16, token: [u8; 256])
+    requires { ⌜ length (now r) ≡ runSize width ⌝ }
+    ensures { λ _. ⌜ decodeRun width (now (r .exit)) ≡ withToken (decodeRun width (now (r .entry))) toklen token ⌝ }
+{
+    octets::put16(r, TOKLEN, toklen);
+    octets::put256(r, RUN_TOKEN, token);
+}
+
+// "store the token, send Commit with it", a Repeat: where that gives up, the run is cleared, and the token with it.
+fn reply_token(s: &mut [u8], v: View, body: &[u8], time: u32) -> Said
+    requires { ⌜ (length (now s) ≡ recordSize width) × (v .toklen ≤ 256) ⌝ }
+    ensures { λ x. ⌜ Does x (now (s .exit)) (replyingToken factory (decodePeer width (now (s .entry))) (messageOf (now (body .entry)) v) time) ⌝ }
+{
+    let token = message::token(body, v);
+    store_token(&mut s[RUN..LINK], v.toklen, token);
+    repeat_commit(s, time)
 }
 
 // ---- HearAgain, HearLast

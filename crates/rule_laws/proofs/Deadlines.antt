@@ -49,9 +49,9 @@ told : (v : Event) → tells v ≡ true → v ≡ event.None → ⊥
 told v s e = clash s (ap tells e)
 
 -- a repeat sends or gives up
-repeat-tells : (τ : Timing) (p : Peer) (sc : ℕ) (fs : Frames) (time : ℕ) → (fs ≡ None → ⊥) → Quiet (retransmitting τ p sc fs time) → ⊥
+repeat-tells : (τ : Timing) (p : Peer) (r : Run) (fs : Frames) (time : ℕ) → (fs ≡ None → ⊥) → Quiet (retransmitting τ p r fs time) → ⊥
 unfolding abandoning sending
-repeat-tells τ p sc fs time d = repeat-outcomes (λ (s : Step). Quiet s → ⊥) τ p sc fs time (λ h q. told _ refl (q .event)) (λ h q. d (q .frames))
+repeat-tells τ p r fs time d = repeat-outcomes (λ (s : Step). Quiet s → ⊥) τ p r fs time (λ h q. told _ refl (q .event)) (λ h q. d (q .frames))
 
 module _ (t : Terms) (c : Call) (p : Peer) (m : Message) where
   -- a switch of group sends or gives up
@@ -69,7 +69,7 @@ module _ (t : Terms) (c : Call) (p : Peer) (m : Message) where
   still-act NoSlot q = record { t0 = refl; t1 = refl }
   still-act AnswerCommit q = absurd (sent _ refl (q .frames))
   still-act ConfirmCommit q = absurd (sent _ refl (q .frames))
-  still-act ReplyToken q = absurd (sent _ refl (q .frames))
+  still-act ReplyToken q = absurd (repeat-tells (t .timing) p _ _ (c .time) (sent _ refl) q)
   still-act SwitchGroup q = absurd (switch-tells q)
   still-act RepeatCommit q = absurd (repeat-tells (t .timing) p _ _ (c .time) (sent _ refl) q)
   still-act RepeatRefusal q = absurd (repeat-tells (t .timing) p _ _ (c .time) (sent _ refl) q)
@@ -105,9 +105,9 @@ accept-moves : (p : Peer) (counter time : ℕ) → (p .run .state ≡ 0 → ⊥)
 unfolding accepting noRun
 accept-moves p counter time d = has-ended (run-ends (rw (ne-eqb _ _ d) refl) refl) (λ e. absurd (told _ refl e))
 
-repeat-moves : (τ : Timing) (p : Peer) (sc : ℕ) (fs : Frames) (time : ℕ) → (p .run .state ≡ 0 → ⊥) → (fs ≡ None → ⊥) → ActMoves p (retransmitting τ p sc fs time)
+repeat-moves : (τ : Timing) (p : Peer) (r : Run) (fs : Frames) (time : ℕ) → (p .run .state ≡ 0 → ⊥) → (fs ≡ None → ⊥) → ActMoves p (retransmitting τ p r fs time)
 unfolding sending
-repeat-moves τ p sc fs time d f = repeat-outcomes (StepMoves false p) τ p sc fs time (λ h. abandon-moves p d) (λ h. has-sent f)
+repeat-moves τ p r fs time d f = repeat-outcomes (StepMoves false p) τ p r fs time (λ h. abandon-moves p d) (λ h. has-sent f)
 
 -- a link that ends was in being; where none was, a sound record stays as it is
 module _ (own gs a : List ℕ) (p : Peer) (k : Kept own gs a p) where
@@ -142,7 +142,7 @@ module _ (t : Terms) (c : Call) (p : Peer) (m : Message) (k : Kept (t .own) (t .
   act-moves (begin r e) = has-sent (sent _ refl)
   act-moves (answer-commit d r o e) = has-sent (sent _ refl)
   act-moves (confirm-commit s o g e) = has-sent (sent _ refl)
-  act-moves (reply-token s z g) = has-sent (sent _ refl)
+  act-moves (reply-token s z g) = repeat-moves (t .timing) p _ _ (c .time) (λ q. omega arith) (sent _ refl)
   act-moves (switch-group s z g) =
       switch-outcomes (StepMoves false p) (t .timing) p (t .groups) (c .fresh) (c .time) (λ i g h. has-sent (sent _ refl)) (λ h. abandon-moves p (λ q. omega arith))
   act-moves (repeat-commit s z) = repeat-moves (t .timing) p _ _ (c .time) (λ q. omega arith) (sent _ refl)

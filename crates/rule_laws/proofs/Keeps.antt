@@ -30,7 +30,7 @@ use Rattle.soundness.specs.Soundness.{usable, allKnown, eachOnce, highSync, com
 use Rattle.soundness.proofs.Laws.{Token, Committed, Confirmed, Finished, no-run-ok, no-link-ok, no-peer-ok, run-unused, peer-unused, run-is-committed, committed-is-run, run-is-confirmed, confirmed-is-run, run-states, link-is-finished, finished-is-link, peer-in-use, in-use-peer, listed-known}
 use Rattle.rules.specs.declared.Frames.{Frames}
 use Rattle.rules.specs.declared.Frames.the-variants.{One}
-use Rattle.rules.specs.Parts.{counting, withToken, switched, heardAgain, withRun, withLink}
+use Rattle.rules.specs.Parts.{withSync, withSc, withToken, switched, heardAgain, withRun, withLink}
 use Rattle.rules.specs.Book.{Timing, Step, commitFrame, deadline, delay, setT0, sending, answering, settled, abandoning, retransmitting, supersede, formedRun, forming, linkOfRun, accepting, endingLink, startedRun, starting, switching, replyingToken}
 use Rattle.rules.specs.Message.{Message}
 use Rattle.rule_laws.proofs.Outcomes.{whether, switch-outcomes, repeat-outcomes, settle-outcomes}
@@ -301,8 +301,8 @@ token-of gs r f ok = elim (run-states gs r ok) [
   | inr u ↦ elim u [ inl e ↦ run-is-committed gs r e ok .token | inr e ↦ run-is-confirmed gs r e ok .token ]
 ]
 
-counted-fits : (r : Run) (sync sc : ℕ) → FitRun width r → sync < 256 → sc < 65536 → FitRun width (counting r sync sc)
-unfolding counting
+counted-fits : (r : Run) (sync sc : ℕ) → FitRun width r → sync < 256 → sc < 65536 → FitRun width (withSync (withSc r sc) sync)
+unfolding withSync withSc
 counted-fits r sync sc f h k =
     let s = f .shape in
     record {
@@ -323,8 +323,8 @@ counted-fits r sync sc f h k =
       token = f .token;
     }
 
-counted-committed : (gs : List ℕ) (r : Run) (sync : ℕ) → Committed gs r → sync ≤ highSync → Committed gs (counting r sync (r .sc))
-unfolding counting
+counted-committed : (gs : List ℕ) (r : Run) (sync : ℕ) → Committed gs r → sync ≤ highSync → Committed gs (withSync r sync)
+unfolding withSync
 counted-committed gs r sync f h =
     record {
       sync = h;
@@ -337,8 +337,8 @@ counted-committed gs r sync f h =
       peer = f .peer;
     }
 
-counted-confirmed : (gs : List ℕ) (r : Run) (sync : ℕ) → Confirmed gs r → sync ≤ highSync → r .sync + 1 ≡ sync → Confirmed gs (counting r sync (r .sc + 1))
-unfolding counting
+counted-confirmed : (gs : List ℕ) (r : Run) (sync : ℕ) → Confirmed gs r → sync ≤ highSync → r .sync + 1 ≡ sync → Confirmed gs (withSync (withSc r (r .sc + 1)) sync)
+unfolding withSync withSc
 counted-confirmed gs r sync f h e =
     record {
       sync = h;
@@ -671,21 +671,32 @@ module _ (own gs a : List ℕ) where
             (λ z. omega (arith, f .finished, z .1));
       }
 
-  -- "Repeat", in Committed and in Confirmed
-  pub repeat-keeps : (τ : Timing) (p : Peer) (fs : Frames) (time : ℕ) → τ .limit + 1 ≤ highSync → Kept own gs a p → p .run .state ≡ 1
-      → Keeps own gs a (retransmitting τ p (p .run .sc) fs time)
-  unfolding counting
-  repeat-keeps τ p fs time t k e =
-      let q = parts own gs a p k in
+  -- "Repeat", in Committed, where the run that goes on is in Committed too: the record's, or the record's with another token; and in Confirmed
+  repeat-keeps : (τ : Timing) (p : Peer) (r : Run) (fs : Frames) (time : ℕ) → τ .limit + 1 ≤ highSync → Kept own gs a p → p .run .state ≡ 1
+      → r .state ≡ 1 → Committed gs r → FitRun width r → Keeps own gs a (retransmitting τ p r fs time)
+  unfolding withSync withSc
+  repeat-keeps τ p r fs time t k e d f g =
       let u = run-used own gs a p k (λ z. omega arith) in
-      repeat-outcomes (Keeps own gs a) τ p (p .run .sc) fs time (λ h. abandon-keeps p k)
-      (λ h. send-keeps τ p _ fs 0 time k u (λ z. omega arith)
-      (committed-is-run gs _ e (counted-committed gs (p .run) (p .run .sync + 1) (run-is-committed gs (p .run) e (q .run)) (omega arith)))
-      (counted-fits (p .run) (p .run .sync + 1) (p .run .sc) (q .fitRun) (omega arith) (q .fitRun .shape .sc)))
+      repeat-outcomes (Keeps own gs a) τ p r fs time (λ h. abandon-keeps p k)
+      (λ h. send-keeps τ p _ fs 0 time k u (λ z. omega arith) (committed-is-run gs _ d (counted-committed gs r (p .run .sync + 1) f (omega arith)))
+      (counted-fits r (p .run .sync + 1) (r .sc) g (omega arith) (g .shape .sc)))
+
+  pub same-keeps : (τ : Timing) (p : Peer) (fs : Frames) (time : ℕ) → τ .limit + 1 ≤ highSync → Kept own gs a p → p .run .state ≡ 1
+      → Keeps own gs a (retransmitting τ p (p .run) fs time)
+  same-keeps τ p fs time t k e =
+      let q = parts own gs a p k in repeat-keeps τ p (p .run) fs time t k e e (run-is-committed gs (p .run) e (q .run)) (q .fitRun)
+
+  pub reply-keeps : (τ : Timing) (p : Peer) (m : Message) (time : ℕ) → τ .limit + 1 ≤ highSync → Heard gs m → Kept own gs a p → p .run .state ≡ 1
+      → Keeps own gs a (replyingToken τ p m time)
+  unfolding replyingToken withToken
+  reply-keeps τ p m time t h k e =
+      let q = parts own gs a p k in
+      repeat-keeps τ p (withToken (p .run) (m .toklen) (m .token)) _ time t k e e (token-committed gs (p .run) m (run-is-committed gs (p .run) e (q .run)) h)
+      (token-fits gs (p .run) m (q .fitRun) h)
 
   pub raised-keeps : (τ : Timing) (p : Peer) (fs : Frames) (time : ℕ) → Kept own gs a p → p .run .state ≡ 2 → p .run .sync + 1 ≤ highSync
-      → Keeps own gs a (sending τ p (counting (p .run) (p .run .sync + 1) (p .run .sc + 1)) fs 0 time)
-  unfolding counting
+      → Keeps own gs a (sending τ p (withSync (withSc (p .run) (p .run .sc + 1)) (p .run .sync + 1)) fs 0 time)
+  unfolding withSync withSc
   raised-keeps τ p fs time k e h =
       let q = parts own gs a p k in
       let u = run-used own gs a p k (λ z. omega arith) in
@@ -729,14 +740,6 @@ module _ (own gs a : List ℕ) where
       send-keeps τ p _ (One (commitFrame g)) g time k u (λ y. omega arith) (committed-is-run gs _ e (switched-committed gs (p .run) _ g (freshAt fresh i) f b z m c))
       (switched-fits (p .run) _ g (freshAt fresh i) (q .fitRun) (omega arith) (group-fits gs g l m) c))
       (λ h. abandon-keeps p k)
-
-  pub reply-keeps : (τ : Timing) (p : Peer) (m : Message) (time : ℕ) → Heard gs m → Kept own gs a p → p .run .state ≡ 1 → Keeps own gs a (replyingToken τ p m time)
-  unfolding replyingToken withToken
-  reply-keeps τ p m time h k e =
-      let q = parts own gs a p k in
-      let u = run-used own gs a p k (λ z. omega arith) in
-      send-keeps τ p (withToken (p .run) (m .toklen) (m .token)) _ 0 time k u (λ z. omega arith)
-      (committed-is-run gs (withToken (p .run) (m .toklen) (m .token)) e (token-committed gs (p .run) m (run-is-committed gs (p .run) e (q .run)) h)) (token-fits gs (p .run) m (q .fitRun) h)
 
   -- a received commit is stored as one of its group
   pub heard-stored : (m : Message) → Heard gs m → m .listed ≡ true → Stored (m .group) (m .commit)

@@ -20,7 +20,7 @@ use Rattle.rules.specs.declared.Act.the-variants as act
 use Rattle.rules.specs.declared.Event.the-variants as event
 use Rattle.rules.specs.declared.Frames.{Frames}
 use Rattle.rules.specs.declared.Frames.the-variants.{None, One}
-use Rattle.rules.specs.Parts.{withMark, counting, heardAgain, withToken, withRun, withLink}
+use Rattle.rules.specs.Parts.{withMark, withSync, withSc, heardAgain, withToken, withRun, withLink}
 use Rattle.rules.specs.Parts as changed
 use Rattle.rules.specs.Book.{_is_, holds, Timing, Terms, Call, Step, silence, commitFrame, deadline, delay, t0Due, setT0, sending, answering, refusing, settled, abandoning, endingLink, retransmitting, dropping, supersede, formedRun, forming, startedRun, starting, linkOfRun, accepting, answeringCommit, confirmingCommit, replyingToken, repeatingCommit, repeatingRefusal, resendingBoth, confirmingAgain, hearingAgain, hearingLast, perform, startAct, clockAct, commitAct, confirmAct, onFrame, onClock, onStart}
 use Rattle.rules.specs.Asked.{Asked, refuse-group, ask-token, no-slot, begin, answer-commit, confirm-commit, reply-token, switch-group, repeat-commit, repeat-refusal, resend-both, confirm-again, give-up, accept, hear-again, hear-last, end-link, drop}
@@ -55,6 +55,11 @@ pub record SameRun (r x : Run) : Type 0 where
 pub record T0Set (τ : Timing) (time : ℕ) (r : Run) : Type 0 where
   pub t0 : r .t0 ≡ deadline time (delay τ (r .sync))
 
+-- a repeat is made within the limit, and Sync counts it
+pub record Counted (τ : Timing) (p : Peer) (s : Step) : Type 0 where
+  pub low : p .run .sync ≤ τ .limit
+  pub sync : s .peer .run .sync ≡ p .run .sync + 1
+
 -- a drop changes nothing, sends nothing and tells nothing
 pub record Dropped (p : Peer) (s : Step) : Type 0 where
   pub event : s .event ≡ event.None
@@ -80,13 +85,13 @@ pub record Refused (p : Peer) (s : Step) : Type 0 where
   pub t0 : s .peer .run .t0 ≡ p .run .t0
   pub t1 : s .peer .link .t1 ≡ p .link .t1
 
--- the reply to a 76 changes the token and t0
+-- the reply to a 76, a repeat too, changes the token and t0
 pub record Replied (τ : Timing) (time : ℕ) (p : Peer) (s : Step) : Type 0 where
   pub event : s .event ≡ event.None
   pub afresh : s .afresh ≡ 0
   pub around : AroundRun p (s .peer)
+  pub counted : Counted τ p s
   pub state : s .peer .run .state ≡ p .run .state
-  pub sync : s .peer .run .sync ≡ p .run .sync
   pub rejected : s .peer .run .rejected ≡ p .run .rejected
   pub sc : s .peer .run .sc ≡ p .run .sc
   pub group : s .peer .run .group ≡ p .run .group
@@ -107,14 +112,13 @@ pub record Switched (τ : Timing) (time : ℕ) (p : Peer) (s : Step) : Type 0 wh
   pub token : s .peer .run .token ≡ p .run .token
   pub set : T0Set τ time (s .peer .run)
 
--- a repeat raises Sync by one and changes Sc and t0
+-- any other repeat changes Sc and t0
 pub record Repeated (τ : Timing) (time : ℕ) (p : Peer) (s : Step) : Type 0 where
   pub event : s .event ≡ event.None
   pub afresh : s .afresh ≡ 0
   pub around : AroundRun p (s .peer)
+  pub counted : Counted τ p s
   pub run : SameRun (p .run) (s .peer .run)
-  pub low : p .run .sync ≤ τ .limit
-  pub sync : s .peer .run .sync ≡ p .run .sync + 1
   pub set : T0Set τ time (s .peer .run)
 
 -- a formed pair: Confirmed, Sync 0, Sc 1, none rejected, t0 set; the token stays; a link is marked and keeps its t1
@@ -239,15 +243,16 @@ module _ (τ : Timing) (time : ℕ) (p : Peer) where
   unfolding refusing
   refuse-row = refused (record { event = refl; frames = refl; afresh = refl; refused = refl; peer = refl; t0 = refl; t1 = refl })
 
-  reply-row : (m : Message) → Did τ time p (replyingToken τ p m time)
-  unfolding replyingToken withToken sending withRun setT0
-  reply-row m =
+  token-row : (m : Message) → p .run .sync ≤ τ .limit
+      → Did τ time p (sending τ p (withSync (withToken (p .run) (m .toklen) (m .token)) (p .run .sync + 1)) (One (commitFrame (p .run .group))) 0 time)
+  unfolding withSync withToken sending withRun setT0
+  token-row m h =
       replied (record {
         event = refl;
         afresh = refl;
         around = record { used = refl; address = refl; link = refl };
+        counted = record { low = h; sync = refl };
         state = refl;
-        sync = refl;
         rejected = refl;
         sc = refl;
         group = refl;
@@ -272,16 +277,15 @@ module _ (τ : Timing) (time : ℕ) (p : Peer) where
         set = record { t0 = refl };
       })
 
-  count-row : (sc : ℕ) (fs : Frames) → p .run .sync ≤ τ .limit → Did τ time p (sending τ p (counting (p .run) (p .run .sync + 1) sc) fs 0 time)
-  unfolding counting sending withRun setT0
+  count-row : (sc : ℕ) (fs : Frames) → p .run .sync ≤ τ .limit → Did τ time p (sending τ p (withSync (withSc (p .run) sc) (p .run .sync + 1)) fs 0 time)
+  unfolding withSync withSc sending withRun setT0
   count-row sc fs h =
       repeated (record {
         event = refl;
         afresh = refl;
         around = record { used = refl; address = refl; link = refl };
+        counted = record { low = h; sync = refl };
         run = record { state = refl; rejected = refl; group = refl; toklen = refl; own = refl; peer = refl; token = refl };
-        low = h;
-        sync = refl;
         set = record { t0 = refl };
       })
 
@@ -364,8 +368,16 @@ module _ (τ : Timing) (time : ℕ) (p : Peer) where
         t1 = refl;
       })
 
-  repeat-row : (sc : ℕ) (fs : Frames) → Did τ time p (retransmitting τ p sc fs time)
-  repeat-row sc fs = repeat-outcomes (Did τ time p) τ p sc fs time (λ h. abandon-row) (λ h. count-row sc fs h)
+  repeat-row : (sc : ℕ) (fs : Frames) → Did τ time p (retransmitting τ p (withSc (p .run) sc) fs time)
+  repeat-row sc fs = repeat-outcomes (Did τ time p) τ p (withSc (p .run) sc) fs time (λ h. abandon-row) (λ h. count-row sc fs h)
+
+  same-row : (fs : Frames) → Did τ time p (retransmitting τ p (p .run) fs time)
+  unfolding withSc
+  same-row fs = repeat-row (p .run .sc) fs
+
+  reply-row : (m : Message) → Did τ time p (replyingToken τ p m time)
+  unfolding replyingToken
+  reply-row m = repeat-outcomes (Did τ time p) τ p _ _ time (λ h. abandon-row) (λ h. token-row m h)
 
 -- ---- every step is one of the rows
 
@@ -383,8 +395,8 @@ module _ (t : Terms) (c : Call) (p : Peer) (m : Message) where
   act-did (switch-group s z g) =
       switch-outcomes (Did (t .timing) (c .time) p) (t .timing) p (t .groups) (c .fresh) (c .time) (λ i g h. switch-row (t .timing) (c .time) p _ g _ _)
       (λ h. abandon-row (t .timing) (c .time) p)
-  act-did (repeat-commit s z) = repeat-row (t .timing) (c .time) p _ _
-  act-did (repeat-refusal s z l) = repeat-row (t .timing) (c .time) p _ _
+  act-did (repeat-commit s z) = same-row (t .timing) (c .time) p _
+  act-did (repeat-refusal s z l) = same-row (t .timing) (c .time) p _
   act-did (resend-both s z l g) = count-row (t .timing) (c .time) p _ _ l
   act-did (confirm-again s z) = repeat-row (t .timing) (c .time) p _ _
   act-did (give-up s z e) = abandon-row (t .timing) (c .time) p
@@ -409,7 +421,7 @@ module _ (t : Terms) (c : Call) (p : Peer) where
   expire-did =
       let P : Act → Type 0 = λ (a : Act). Did (t .timing) (c .time) p (perform t c p silence a) in
       whether P (holds (t0Due p (c .time))) _ _
-      (λ x. whether P (p .run .state is 2) _ _ (λ e. repeat-row (t .timing) (c .time) p _ _) (λ d. repeat-row (t .timing) (c .time) p _ _))
+      (λ x. whether P (p .run .state is 2) _ _ (λ e. repeat-row (t .timing) (c .time) p _ _) (λ d. same-row (t .timing) (c .time) p _))
       (λ x. end-row (t .timing) (c .time) p)
 
   begins : t .full ≡ false → startAct t ≡ act.Begin
@@ -444,9 +456,9 @@ module _ (τ : Timing) (time : ℕ) (p : Peer) (s : Step) where
   sync-bound (dropped r) h = rw (r .peer) h
   sync-bound (answered r) h = rw (r .peer) h
   sync-bound (refused r) h = rw (r .peer) h
-  sync-bound (replied r) h = omega (arith, r .sync)
+  sync-bound (replied r) h = omega (arith, r .counted .sync, r .counted .low)
   sync-bound (switched r) h = omega (arith, r .sync)
-  sync-bound (repeated r) h = omega (arith, r .sync, r .low)
+  sync-bound (repeated r) h = omega (arith, r .counted .sync, r .counted .low)
   sync-bound (formed r) h = omega (arith, r .sync)
   sync-bound (started a g f r) h = omega (arith, r .sync)
   sync-bound (accepted r) h = rw (r .run) (omega arith)
@@ -495,8 +507,8 @@ module _ (p : Peer) where
   unfolding abandoning
   abandon-stands = record { stands = inr (inl refl) }
 
-  count-stands : (τ : Timing) (sc : ℕ) (fs : Frames) (time : ℕ) → Stands p (sending τ p (counting (p .run) (p .run .sync + 1) sc) fs 0 time)
-  unfolding counting sending withRun setT0
+  count-stands : (τ : Timing) (sc : ℕ) (fs : Frames) (time : ℕ) → Stands p (sending τ p (withSync (withSc (p .run) sc) (p .run .sync + 1)) fs 0 time)
+  unfolding withSync withSc sending withRun setT0
   count-stands τ sc fs time = record { stands = inl (record { state = refl; group = refl; own = refl; peer = refl }) }
 
   accept-stands : (counter time : ℕ) → Stands p (accepting p counter time)

@@ -8,11 +8,12 @@ use Rattle.octets.specs.Scan.{if_then_else_}
 use Rattle.groups.specs.Groups.{freshAt, firstLeft, indexOf, mark}
 use Rattle.groups.specs.declared.Choice.{Choice}
 use Rattle.groups.specs.declared.Choice.the-variants as choice
+use Rattle.record.specs.declared.Run.{Run}
 use Rattle.record.specs.declared.Peer.{Peer}
 use Rattle.record.specs.Layout.{noPeer}
 use Rattle.rules.specs.declared.Frames.{Frames}
 use Rattle.rules.specs.declared.Frames.the-variants.{One}
-use Rattle.rules.specs.Parts.{counting, switched}
+use Rattle.rules.specs.Parts.{withSync, switched}
 use Rattle.rules.specs.Book.{_is_, _above_, Timing, Step, commitFrame, sending, settled, abandoning, retransmitting, switchingTo, switching}
 
 pub whether : {A : Type 0} (P : A → Type 0) (b : Bool) (x y : A) → (b ≡ true → P x) → (b ≡ false → P y) → P (if b then x else y)
@@ -34,13 +35,13 @@ switch-outcomes P τ p groups fresh time f g = go (mark (p .run .rejected) (inde
     go r (choice.Group i g) f h = f i g refl
     go r choice.None f h = h refl
 
-pub repeat-outcomes : (P : Step → Type 0) (τ : Timing) (p : Peer) (sc : ℕ) (fs : Frames) (time : ℕ) →
+pub repeat-outcomes : (P : Step → Type 0) (τ : Timing) (p : Peer) (r : Run) (fs : Frames) (time : ℕ) →
     (τ .limit < p .run .sync → P (abandoning p))
-    → (p .run .sync ≤ τ .limit → P (sending τ p (counting (p .run) (p .run .sync + 1) sc) fs 0 time))
-    → P (retransmitting τ p sc fs time)
+    → (p .run .sync ≤ τ .limit → P (sending τ p (withSync r (p .run .sync + 1)) fs 0 time))
+    → P (retransmitting τ p r fs time)
 unfolding retransmitting
-repeat-outcomes P τ p sc fs time f g =
-    whether P (p .run .sync above τ .limit) (abandoning p) (sending τ p (counting (p .run) (p .run .sync + 1) sc) fs 0 time)
+repeat-outcomes P τ p r fs time f g =
+    whether P (p .run .sync above τ .limit) (abandoning p) (sending τ p (withSync r (p .run .sync + 1)) fs 0 time)
     (λ e. f (ltb-true _ _ e)) (λ e. g (ltb-false _ _ e))
 
 pub settle-outcomes : (P : Peer → Type 0) (p : Peer) →

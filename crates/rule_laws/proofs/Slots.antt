@@ -5,6 +5,7 @@ use Prim.Native.Nat.{ℕ}
 use native.Mathlib.Omega.{arith}
 use Rattle.octets.specs.Scan.{if_then_else_}
 use Rattle.octets.proofs.Scan.{clash}
+use Rattle.record.specs.declared.Run.{Run}
 use Rattle.record.specs.declared.Peer.{Peer}
 use Rattle.record.specs.Layout.{noRun, noLink, noPeer}
 use Rattle.rules.specs.Message.{Message}
@@ -22,9 +23,9 @@ abbrev Seated : Step → Type 0
 Seated s = s .refused ≡ false
 
 -- a repeat sends or gives up
-repeat-seated : (τ : Timing) (p : Peer) (sc : ℕ) (fs : Frames) (time : ℕ) → Seated (retransmitting τ p sc fs time)
+repeat-seated : (τ : Timing) (p : Peer) (r : Run) (fs : Frames) (time : ℕ) → Seated (retransmitting τ p r fs time)
 unfolding sending abandoning
-repeat-seated τ p sc fs time = repeat-outcomes Seated τ p sc fs time (λ h. refl) (λ h. refl)
+repeat-seated τ p r fs time = repeat-outcomes Seated τ p r fs time (λ h. refl) (λ h. refl)
 
 -- the free record has no run and no link
 free-run : (p : Peer) → p ≡ noPeer → p .run .state ≡ 0
@@ -48,7 +49,7 @@ module _ (t : Terms) (c : Call) (p : Peer) (m : Message) where
   refused-act act.NoSlot = refl
   refused-act act.AnswerCommit = refl
   refused-act act.ConfirmCommit = refl
-  refused-act act.ReplyToken = refl
+  refused-act act.ReplyToken = repeat-seated (t .timing) p _ _ (c .time)
   refused-act act.SwitchGroup = switch-outcomes Seated (t .timing) p (t .groups) (c .fresh) (c .time) (λ i g h. refl) (λ h. refl)
   refused-act act.RepeatCommit = repeat-seated (t .timing) p _ _ (c .time)
   refused-act act.RepeatRefusal = repeat-seated (t .timing) p _ _ (c .time)

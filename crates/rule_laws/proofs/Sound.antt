@@ -21,7 +21,7 @@ use Rattle.rules.specs.Book.{_is_, holds, Terms, Call, Step, silence, t0Due, pe
 use Rattle.rules.specs.Asked.{NoRun, Asked, refuse-group, ask-token, no-slot, begin, answer-commit, confirm-commit, reply-token, switch-group, repeat-commit, repeat-refusal, resend-both, confirm-again, give-up, accept, hear-again, hear-last, end-link, drop}
 use Rattle.rules.proofs.Ladders.{start-asked, commit-asked, confirm-asked, frame-asked, clock-asked}
 use Rattle.rule_laws.proofs.Outcomes.{repeat-outcomes}
-use Rattle.rule_laws.proofs.Keeps.{Place, Lists, Stored, Stock, Heard, Kept, Keeps, parts, listed-at, fresh-stored, heard-stored, answer-keeps, abandon-keeps, end-keeps, form-keeps, accept-keeps, hear-keeps, repeat-keeps, raised-keeps, start-keeps, switch-keeps, reply-keeps}
+use Rattle.rule_laws.proofs.Keeps.{Place, Lists, Stored, Stock, Heard, Kept, Keeps, parts, listed-at, fresh-stored, heard-stored, answer-keeps, abandon-keeps, end-keeps, form-keeps, accept-keeps, hear-keeps, same-keeps, raised-keeps, start-keeps, switch-keeps, reply-keeps}
 
 bytes-zeros : (n : ℕ) → Bytes (replicate n 0)
 bytes-zeros zero i = lit< tt
@@ -83,10 +83,10 @@ module _ (t : Terms) (c : Call) (p : Peer) (m : Message) (h : Handed t c m) (k :
   sound-act S (confirm-commit s o g e) =
       form-keeps _ _ _ (t .timing) p (c .address) (m .group) _ (m .commit) _ _ (c .time) (h .place) (h .lists) k refl (h .heard .group (o .listed)) (stored-own s g)
       (heard-stored (t .own) (t .groups) (c .address) m (h .heard) (o .listed))
-  sound-act S (reply-token s z g) = reply-keeps _ _ _ (t .timing) p m (c .time) (h .heard) k s
+  sound-act S (reply-token s z g) = reply-keeps _ _ _ (t .timing) p m (c .time) (h .limit) (h .heard) k s
   sound-act S (switch-group s z g) = switch-keeps _ _ _ (t .timing) p (c .fresh) (c .time) (h .lists) (S refl) k s
-  sound-act S (repeat-commit s z) = repeat-keeps _ _ _ (t .timing) p _ (c .time) (h .limit) k s
-  sound-act S (repeat-refusal s z l) = repeat-keeps _ _ _ (t .timing) p _ (c .time) (h .limit) k s
+  sound-act S (repeat-commit s z) = same-keeps _ _ _ (t .timing) p _ (c .time) (h .limit) k s
+  sound-act S (repeat-refusal s z l) = same-keeps _ _ _ (t .timing) p _ (c .time) (h .limit) k s
   sound-act S (resend-both s z l g) = raised-keeps _ _ _ (t .timing) p _ (c .time) k s (omega (arith, h .limit))
   sound-act S (confirm-again s z) =
       repeat-outcomes Sound (t .timing) p _ _ (c .time) (λ e. abandon-keeps _ _ _ p k) (λ e. raised-keeps _ _ _ (t .timing) p _ (c .time) k s (omega (arith, h .limit)))

@@ -11,7 +11,7 @@ use Rattle.rules.specs.declared.Act.{Act}
 use Rattle.rules.specs.declared.Frame.{Frame}
 use Rattle.rules.specs.declared.Frames.{Frames}
 use Rattle.rules.specs.declared.Frames.the-variants.{None, One, Two}
-use Rattle.rules.specs.Parts.{counting, withToken, switched, heardAgain, withRun, withLink}
+use Rattle.rules.specs.Parts.{withSync, withSc, withToken, switched, heardAgain, withRun, withLink}
 use Rattle.rules.specs.Book.{Timing, Terms, Call, Step, silence, commitFrame, tokenRequestFrame, groupRefusalFrame, confirmFrame, setT0, sending, answering, refusing, abandoning, endingLink, dropping, formedRun, forming, startedRun, starting, accepting, answeringCommit, confirmingCommit, replyingToken, repeatingCommit, repeatingRefusal, confirmingAgain, resendingBoth, hearingLast, hearingAgain, perform, onFrame, onClock, onStart}
 use Rattle.rules.specs.Asked.{NoRun, Asked, refuse-group, ask-token, no-slot, begin, answer-commit, confirm-commit, reply-token, switch-group, repeat-commit, repeat-refusal, resend-both, confirm-again, give-up, accept, hear-again, hear-last, end-link, drop}
 use Rattle.rules.proofs.Ladders.{start-asked, frame-asked, clock-asked}
@@ -68,7 +68,7 @@ no-run p (inr (inr e)) r = absurd (r .not-confirmed e)
 
 module _ (t : Terms) (c : Call) (p : Peer) (m : Message) (h : m .group < 65536) (states : States p) where
   pub truthful-act : {a : Act} → Asked t c p m a → Truthful (perform t c p m a)
-  unfolding perform dropping answering refusing abandoning endingLink formedRun forming setT0 startedRun starting accepting answeringCommit confirmingCommit replyingToken repeatingCommit repeatingRefusal confirmingAgain resendingBoth hearingLast hearingAgain counting withToken switched heardAgain withLink
+  unfolding perform dropping answering refusing abandoning endingLink formedRun forming setT0 startedRun starting accepting answeringCommit confirmingCommit replyingToken repeatingCommit repeatingRefusal confirmingAgain resendingBoth hearingLast hearingAgain withSync withSc withToken switched heardAgain withLink
   truthful-act (drop d) = record { tells = tell-none }
   truthful-act (refuse-group r z l) = record { tells = tell-one (a-refusal h) }
   truthful-act (ask-token r z l) = record { tells = tell-one (a-request h) }
@@ -76,15 +76,17 @@ module _ (t : Terms) (c : Call) (p : Peer) (m : Message) (h : m .group < 65536) 
   truthful-act (begin r e) = record { tells = tell-one (a-commit refl (λ z. omega (arith, z))) }
   truthful-act (answer-commit d r o e) = record { tells = tell-two (a-commit refl (λ z. omega (arith, z))) (a-confirm refl refl) }
   truthful-act (confirm-commit s o g e) = record { tells = tell-one (a-confirm refl refl) }
-  truthful-act (reply-token s z g) = send-commit (t .timing) p (withToken (p .run) (m .toklen) (m .token)) 0 (c .time) (λ q. omega arith)
+  truthful-act (reply-token s z g) =
+      repeat-outcomes Truthful (t .timing) p _ _ (c .time) (λ e. silent-end p)
+      (λ e. send-commit (t .timing) p (withSync (withToken (p .run) (m .toklen) (m .token)) (p .run .sync + 1)) 0 (c .time) (λ q. omega arith))
   truthful-act (switch-group s z g) =
       switch-outcomes Truthful (t .timing) p (t .groups) (c .fresh) (c .time) (λ i k e. send-commit (t .timing) p (switched (p .run) _ k _) k (c .time) (λ q. omega arith)) (λ e. silent-end p)
   truthful-act (repeat-commit s z) =
-      repeat-outcomes Truthful (t .timing) p _ _ (c .time) (λ e. silent-end p) (λ e. send-commit (t .timing) p (counting (p .run) (p .run .sync + 1) (p .run .sc)) 0 (c .time) (λ q. omega arith))
+      repeat-outcomes Truthful (t .timing) p _ _ (c .time) (λ e. silent-end p) (λ e. send-commit (t .timing) p (withSync (p .run) (p .run .sync + 1)) 0 (c .time) (λ q. omega arith))
   truthful-act (repeat-refusal s z l) = repeat-outcomes Truthful (t .timing) p _ _ (c .time) (λ e. silent-end p) (λ e. send-refusal (t .timing) p _ (m .group) (c .time) h)
-  truthful-act (resend-both s z l g) = send-both (t .timing) p (counting (p .run) (p .run .sync + 1) (p .run .sc + 1)) (c .time) s
+  truthful-act (resend-both s z l g) = send-both (t .timing) p (withSync (withSc (p .run) (p .run .sc + 1)) (p .run .sync + 1)) (c .time) s
   truthful-act (confirm-again s z) =
-      repeat-outcomes Truthful (t .timing) p _ _ (c .time) (λ e. silent-end p) (λ e. send-confirm (t .timing) p (counting (p .run) (p .run .sync + 1) (p .run .sc + 1)) (c .time) s)
+      repeat-outcomes Truthful (t .timing) p _ _ (c .time) (λ e. silent-end p) (λ e. send-confirm (t .timing) p (withSync (withSc (p .run) (p .run .sc + 1)) (p .run .sync + 1)) (c .time) s)
   truthful-act (give-up s z e) = record { tells = tell-none }
   truthful-act (accept s d z v) = record { tells = tell-none }
   truthful-act (hear-again r n l i v) = record { tells = tell-one (an-answer (no-run p states r) n) }

@@ -18,7 +18,7 @@ use Rattle.record.specs.declared.Run.{Run}
 use Rattle.record.specs.declared.Link.{Link}
 use Rattle.record.specs.declared.Peer.{Peer}
 use Rattle.record.specs.Layout.{noRun, noLink, noPeer, factoryPeriod, factoryLimit}
-use Rattle.rules.specs.Parts.{withT0, counting, withToken, switched, withMark, heardAgain, withRun, withLink}
+use Rattle.rules.specs.Parts.{withT0, withSync, withSc, withToken, switched, withMark, heardAgain, withRun, withLink}
 use Rattle.rules.specs.Message.{Message}
 use Rattle.rules.specs.declared.Act.{Act}
 use Rattle.rules.specs.declared.Act.the-variants.{Drop, RefuseGroup, AskToken, NoSlot, AnswerCommit, ConfirmCommit, ReplyToken, SwitchGroup, RepeatCommit, RepeatRefusal, ResendBoth, ConfirmAgain, GiveUp, Accept, HearAgain, HearLast, EndLink, Begin}
@@ -194,8 +194,8 @@ commitIdle t c p m =
 unfoldable pub commitCommitted : Terms → Call → Peer → Message → Act
 commitCommitted t c p m =
     if m .status is 76 then
-    (if m .group is p .run .group then ReplyToken  -- "76: our group, store the token, send Commit with it, set t0, not counted;
-    else Drop)  --  other group, drop."
+    (if m .group is p .run .group then ReplyToken  -- "76: our group, store the token, send Commit with it": a Repeat (request j);
+    else Drop)  -- "other group, drop."
     else if m .status is 77 then
     (if m .group is p .run .group then SwitchGroup  -- "77: our group, mark it rejected and take the first group … not marked …; none, give up.
     else Drop)  --  Other group, drop.
@@ -330,11 +330,11 @@ abandoning p = record { peer = settled (withRun p noRun); event = event.Abandone
 unfoldable pub endingLink : Peer → Step
 endingLink p = record { peer = settled (withLink p noLink); event = event.Ended; frames = None; afresh = 0; refused = false }
 
--- "Repeat": if Sync is above 5, give up; else Sync + 1, send, set t0. Sc becomes what is given.
-unfoldable pub retransmitting : Timing → Peer → ℕ → Frames → ℕ → Step
-retransmitting τ p sc fs time =
+-- "Repeat": if Sync is above 5, give up; else Sync + 1, send, set t0. The run that goes on is r: the record's, with the Sc or the token that it then has.
+unfoldable pub retransmitting : Timing → Peer → Run → Frames → ℕ → Step
+retransmitting τ p r fs time =
     if p .run .sync above τ .limit then abandoning p
-    else sending τ p (counting (p .run) (p .run .sync + 1) sc) fs 0 time
+    else sending τ p (withSync r (p .run .sync + 1)) fs 0 time
 
 -- "Drop": send nothing; "a dropped frame changes nothing in the table" (request b).
 unfoldable pub dropping : Peer → Step
@@ -453,23 +453,23 @@ answeringCommit τ p address m own time =
 unfoldable pub confirmingCommit : Timing → Peer → List ℕ → Message → ℕ → Step
 confirmingCommit τ p address m time = forming τ p address (m .group) (p .run .own) (m .commit) (One (confirmFrame 1)) 0 time
 
--- "store the token, send Commit with it, set t0, not counted"
-unfoldable pub replyingToken : Timing → Peer → Message → ℕ → Step
-replyingToken τ p m time = sending τ p (withToken (p .run) (m .toklen) (m .token)) (One (itsCommit p)) 0 time
-
 -- "Repeat the Commit", "Repeat sending 77", "Repeat with Sc + 1 and a new Confirm"
 unfoldable pub repeatingCommit : Timing → Peer → ℕ → Step
-repeatingCommit τ p time = retransmitting τ p (p .run .sc) (One (itsCommit p)) time
+repeatingCommit τ p time = retransmitting τ p (p .run) (One (itsCommit p)) time
 
 unfoldable pub repeatingRefusal : Timing → Peer → ℕ → ℕ → Step
-repeatingRefusal τ p group time = retransmitting τ p (p .run .sc) (One (groupRefusalFrame group)) time
+repeatingRefusal τ p group time = retransmitting τ p (p .run) (One (groupRefusalFrame group)) time
 
 unfoldable pub confirmingAgain : Timing → Peer → ℕ → Step
-confirmingAgain τ p time = retransmitting τ p (p .run .sc + 1) (One (nextConfirm p)) time
+confirmingAgain τ p time = retransmitting τ p (withSc (p .run) (p .run .sc + 1)) (One (nextConfirm p)) time
+
+-- "store the token, send Commit with it"; "A Commit sent again for a 76 is now a Repeat: it gives up above the limit and raises Sync." (request j)
+unfoldable pub replyingToken : Timing → Peer → Message → ℕ → Step
+replyingToken τ p m time = retransmitting τ p (withToken (p .run) (m .toklen) (m .token)) (One (itsCommit p)) time
 
 -- "Sync + 1, Sc + 1, send Commit and Confirm, set t0; the stored peer commit stays"
 unfoldable pub resendingBoth : Timing → Peer → ℕ → Step
-resendingBoth τ p time = sending τ p (counting (p .run) (p .run .sync + 1) (p .run .sc + 1)) (Two (itsCommit p) (nextConfirm p)) 0 time
+resendingBoth τ p time = sending τ p (withSync (withSc (p .run) (p .run .sc + 1)) (p .run .sync + 1)) (Two (itsCommit p) (nextConfirm p)) 0 time
 
 -- "Rc is the counter", which is 65,535
 unfoldable pub hearingLast : Peer → ℕ → Step
@@ -488,7 +488,7 @@ perform t c p m AskToken = answering p (One (tokenRequestFrame (m .group)))  -- 
 perform t c p m NoSlot = refusing p  -- "no slot, refuse"
 perform t c p m AnswerCommit = answeringCommit (t .timing) p (c .address) m (ourFresh t c m) (c .time)  -- "fresh commit, Form, send Commit and Confirm"
 perform t c p m ConfirmCommit = confirmingCommit (t .timing) p (c .address) m (c .time)  -- "Form, send Confirm"
-perform t c p m ReplyToken = replyingToken (t .timing) p m (c .time)  -- "store the token, send Commit with it, set t0, not counted"
+perform t c p m ReplyToken = replyingToken (t .timing) p m (c .time)  -- "store the token, send Commit with it", a Repeat (request j)
 perform t c p m SwitchGroup = switching (t .timing) p (t .groups) (c .fresh) (c .time)  -- "mark it rejected and take the first group …; none, give up"
 perform t c p m RepeatCommit = repeatingCommit (t .timing) p (c .time)  -- "Repeat the Commit"
 perform t c p m RepeatRefusal = repeatingRefusal (t .timing) p (m .group) (c .time)  -- "Repeat sending 77"

@@ -5,7 +5,7 @@ use Rattle.record.specs.declared.Run.{Run}
 use Rattle.record.specs.declared.Link.{Link}
 use Rattle.record.specs.declared.Peer.{Peer}
 
--- ---- a run with another t0; another Sync and Sc; another token; another group, own commit and rejected groups
+-- ---- a run with another t0; another Sync; another Sc; another token; another group, own commit and rejected groups
 
 abbrev pub withT0 : Run → ℕ → Run
 withT0 r t0 =
@@ -22,11 +22,26 @@ withT0 r t0 =
       token = r .token;
     }
 
-unfoldable pub counting : Run → ℕ → ℕ → Run
-counting r sync sc =
+unfoldable pub withSync : Run → ℕ → Run
+withSync r sync =
     record {
       state = r .state;
       sync = sync;
+      rejected = r .rejected;
+      sc = r .sc;
+      group = r .group;
+      toklen = r .toklen;
+      t0 = r .t0;
+      own = r .own;
+      peer = r .peer;
+      token = r .token;
+    }
+
+unfoldable pub withSc : Run → ℕ → Run
+withSc r sc =
+    record {
+      state = r .state;
+      sync = r .sync;
       rejected = r .rejected;
       sc = sc;
       group = r .group;
