@@ -1,5 +1,6 @@
 //! Two ends and an air in which every frame takes its time and none is lost. Nothing is at random.
 
+use crate::access_point::AccessPoint;
 use crate::history::{Answer, Link, Pair};
 use crate::interface::{Call, Counts, Lent};
 use crate::mesh::Mesh;
@@ -22,6 +23,8 @@ pub enum Maker {
     Ours,
     /// The model in mesh.rs.
     Mesh,
+    /// The one in access_point.rs.
+    AccessPoint,
 }
 
 /// What is played. The first of each two is A's, the second B's.
@@ -35,6 +38,8 @@ pub struct Plan {
     /// When it starts, if it does and has not heard from the other by then.
     pub starts: [Option<u64>; 2],
     pub makers: [Maker; 2],
+    /// Whether this end, if it is ours, asks for a token from the first run on.
+    pub asks_token: [bool; 2],
     /// Whether both have the same password. If not, no Confirm is right.
     pub same_password: bool,
 }
@@ -42,7 +47,14 @@ pub struct Plan {
 impl Plan {
     /// Two of ours with this delay each way, no time at the chip, and A starting at 0 ms.
     pub fn ours(delay: u64) -> Plan {
-        Plan { takes: [delay; 2], chip: [0; 2], starts: [Some(0), None], makers: [Maker::Ours; 2], same_password: true }
+        Plan {
+            takes: [delay; 2],
+            chip: [0; 2],
+            starts: [Some(0), None],
+            makers: [Maker::Ours; 2],
+            asks_token: [false; 2],
+            same_password: true,
+        }
     }
 }
 
@@ -83,8 +95,9 @@ pub fn play(plan: &Plan, tell: bool) -> Result<Outcome, Fault> {
     let ends = [0, 1].map(|who| -> Box<dyn End> {
         let password = if plan.same_password { 0 } else { who as u8 };
         match plan.makers[who] {
-            Maker::Ours => Box::new(Ours::new(ADDRESSES[who], ADDRESSES[1 - who], password)),
+            Maker::Ours => Box::new(Ours::new(ADDRESSES[who], ADDRESSES[1 - who], password, plan.asks_token[who])),
             Maker::Mesh => Box::new(Mesh::new(ADDRESSES[who], password)),
+            Maker::AccessPoint => Box::new(AccessPoint),
         }
     });
     let starts = plan.starts;
@@ -266,11 +279,12 @@ struct Ours {
 }
 
 impl Ours {
-    /// A table of one slot, set up with the factory settings.
-    fn new(own: Address, other: Address, password: u8) -> Ours {
+    /// A table of one slot, set up with the factory settings, or with these and threshold 0: then it asks for a token.
+    fn new(own: Address, other: Address, password: u8, asks_token: bool) -> Ours {
         let together = Together::new(&[0; HEADER + RECORD], Known::Nothing);
         let mut ours = Ours { own, other, password, together, counts: Counts::default(), used: 0 };
-        let settings = Settings::factory().octets();
+        let factory = Settings::factory();
+        let settings = Settings { threshold: if asks_token { 0 } else { factory.threshold }, ..factory }.octets();
         assert!(ours.call(&Call::Initialize { own, settings }).is_ok(), "the settings are right");
         ours
     }
@@ -323,7 +337,7 @@ impl Ours {
 }
 
 /// The token that is expected from anyone.
-const TOKEN: [u8; 32] = [7; 32];
+pub const TOKEN: [u8; 32] = [7; 32];
 
 impl End for Ours {
     fn start(&mut self, now: u64) -> Result<Turn, Fault> {

@@ -32,7 +32,7 @@ pub fn run(words: &[String]) -> Result<bool, String> {
 /// What the words say is played: two of ours, A starting and no delay, unless they say otherwise.
 fn plan(words: &[&str]) -> Result<Plan, String> {
     let mut plan = Plan::ours(0);
-    let (mut back, mut answer, mut later) = (None, None, 0);
+    let (mut back, mut answer, mut request, mut later) = (None, None, None, 0);
     for word in words {
         match word.split_once('=') {
             Some(("there", ms)) => plan.takes[0] = number(ms)?,
@@ -43,6 +43,10 @@ fn plan(words: &[&str]) -> Result<Plan, String> {
             Some(("starts", "both")) => plan.starts = BOTH,
             Some(("later", ms)) => later = number(ms)?,
             Some(("answer", ms)) => answer = Some(number(ms)?),
+            Some(("request", ms)) => request = Some(number(ms)?),
+            Some(("token", "a")) => plan.asks_token = [true, false],
+            Some(("token", "b")) => plan.asks_token = [false, true],
+            Some(("token", "both")) => plan.asks_token = [true; 2],
             Some(("password", "same")) => plan.same_password = true,
             Some(("password", "other")) => plan.same_password = false,
             _ => return Err(format!("not a word of this program: {word}")),
@@ -53,6 +57,10 @@ fn plan(words: &[&str]) -> Result<Plan, String> {
     // With an answer time B is the model of a mesh peer.
     if let Some(ms) = answer {
         (plan.makers, plan.chip[1]) = (WITH_MESH, ms);
+    }
+    // With a request time it is the access point that answers 76 to every Commit.
+    if let Some(ms) = request {
+        (plan.makers, plan.chip[1]) = (WITH_ACCESS_POINT, ms);
     }
     Ok(plan)
 }
@@ -127,15 +135,26 @@ struct Series {
 }
 
 const WITH_MESH: [Maker; 2] = [Maker::Ours, Maker::Mesh];
+const WITH_ACCESS_POINT: [Maker; 2] = [Maker::Ours, Maker::AccessPoint];
 const BOTH: [Option<u64>; 2] = [Some(0); 2];
 
-const SERIES: [Series; 8] = [
+const SERIES: [Series; 10] = [
     Series { name: "one starts", over: "delay", plan: Plan::ours },
     Series { name: "both start", over: "delay", plan: |ms| Plan { starts: BOTH, ..Plan::ours(ms) } },
+    Series {
+        name: "one starts, the other asks for a token",
+        over: "delay",
+        plan: |ms| Plan { asks_token: [false, true], ..Plan::ours(ms) },
+    },
     Series { name: "one starts", over: "chip time", plan: |ms| Plan { chip: [ms; 2], ..Plan::ours(0) } },
     Series { name: "both start", over: "chip time", plan: |ms| Plan { chip: [ms; 2], starts: BOTH, ..Plan::ours(0) } },
     Series { name: "ours starts, a mesh peer answers", over: "answer time", plan: |ms| with_mesh([Some(0), None], ms) },
     Series { name: "a mesh peer starts, ours answers", over: "answer time", plan: |ms| with_mesh([None, Some(0)], ms) },
+    Series {
+        name: "ours starts, an access point answers 76 to every Commit",
+        over: "answer time",
+        plan: |ms| Plan { chip: [0, ms], makers: WITH_ACCESS_POINT, ..Plan::ours(0) },
+    },
     Series { name: "one starts, other password", over: "delay", plan: |ms| Plan { same_password: false, ..Plan::ours(ms) } },
     Series { name: "both start, other password", over: "delay", plan: |ms| Plan { same_password: false, starts: BOTH, ..Plan::ours(ms) } },
 ];

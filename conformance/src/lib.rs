@@ -1,6 +1,7 @@
 //! Conformance: an engine in plain Rust, and the programs that hold the archive's engine to it, to recorded calls and to
 //! demand 3.
 
+pub mod access_point;
 pub mod agreement;
 pub mod air;
 #[cfg(archive)]

@@ -130,7 +130,8 @@ impl Mesh {
     }
 }
 
-fn written(parts: &Parts) -> Vec<u8> {
+/// The body that is made of these parts.
+pub fn written(parts: &Parts) -> Vec<u8> {
     let mut out = [0; 408];
     let length = parts.write(&mut out).expect("room for a frame");
     out[..length].to_vec()

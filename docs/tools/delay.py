@@ -13,6 +13,7 @@ BLOCKS = [
     ("Every frame takes so long, each way (delay)", "delay", [
         ("one starts", "one starts"),
         ("both start", "both start at once"),
+        ("one starts, the other asks for a token", "one starts, a token is asked for"),
         ("one starts, other password", "one starts, passwords differ"),
     ]),
     ("The chip takes so long for a frame, the air nothing (chip time)", "chip time", [

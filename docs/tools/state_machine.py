@@ -25,7 +25,7 @@ RULES = {
         "else fresh commit, form, send Commit and Confirm 1 → Confirmed",
     ],
     "Committed": [
-        "76 for our group: store the token, send Commit, set t0",
+        "76 for our group: store the token, repeat the Commit",
         "77 for our group: next group not rejected, fresh commit, send Commit, set t0; none left, give up",
         "Commit, group not listed: repeat, sending 77",
         "Commit, another listed group: own address higher, repeat the Commit; lower: verdict 0 or our fresh commit, drop; "
