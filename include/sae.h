@@ -151,7 +151,7 @@ enum sae_run_state {
 #define SAE_RECORD_IN_USE 0         /* 1 octet, 0 or 1 */
 #define SAE_RECORD_ADDRESS 1        /* 6 octets */
 #define SAE_RECORD_STATE 7          /* 1 octet (enum sae_run_state) */
-#define SAE_RECORD_SYNC 8           /* 1 octet */
+#define SAE_RECORD_SYNC 8           /* 1 octet: repeats of the run since it began or, once its pair is formed, since then */
 #define SAE_RECORD_REJECTED 9       /* 1 octet: bit i is set if the peer refused the i-th listed group, from 0 */
 #define SAE_RECORD_SC 10            /* 2 octets: the counter of the run's last Confirm */
 #define SAE_RECORD_GROUP 12         /* 2 octets: the run's group */

@@ -40,6 +40,8 @@ pub struct Plan {
     pub makers: [Maker; 2],
     /// Whether this end, if it is ours, asks for a token from the first run on.
     pub asks_token: [bool; 2],
+    /// Whether a host of ours leaves out a 76 with the token that its run has already.
+    pub filters_requests: bool,
     /// Whether both have the same password. If not, no Confirm is right.
     pub same_password: bool,
 }
@@ -53,6 +55,7 @@ impl Plan {
             starts: [Some(0), None],
             makers: [Maker::Ours; 2],
             asks_token: [false; 2],
+            filters_requests: false,
             same_password: true,
         }
     }
@@ -95,7 +98,7 @@ pub fn play(plan: &Plan, tell: bool) -> Result<Outcome, Fault> {
     let ends = [0, 1].map(|who| -> Box<dyn End> {
         let password = if plan.same_password { 0 } else { who as u8 };
         match plan.makers[who] {
-            Maker::Ours => Box::new(Ours::new(ADDRESSES[who], ADDRESSES[1 - who], password, plan.asks_token[who])),
+            Maker::Ours => Box::new(Ours::new(who, password, plan)),
             Maker::Mesh => Box::new(Mesh::new(ADDRESSES[who], password)),
             Maker::AccessPoint => Box::new(AccessPoint),
         }
@@ -272,6 +275,7 @@ struct Ours {
     own: Address,
     other: Address,
     password: u8,
+    filters_requests: bool,
     together: Together,
     counts: Counts,
     /// Fresh commits used so far.
@@ -280,11 +284,13 @@ struct Ours {
 
 impl Ours {
     /// A table of one slot, set up with the factory settings, or with these and threshold 0: then it asks for a token.
-    fn new(own: Address, other: Address, password: u8, asks_token: bool) -> Ours {
+    fn new(who: usize, password: u8, plan: &Plan) -> Ours {
+        let (own, other) = (ADDRESSES[who], ADDRESSES[1 - who]);
         let together = Together::new(&[0; HEADER + RECORD], Known::Nothing);
-        let mut ours = Ours { own, other, password, together, counts: Counts::default(), used: 0 };
+        let filters_requests = plan.filters_requests;
+        let mut ours = Ours { own, other, password, filters_requests, together, counts: Counts::default(), used: 0 };
         let factory = Settings::factory();
-        let settings = Settings { threshold: if asks_token { 0 } else { factory.threshold }, ..factory }.octets();
+        let settings = Settings { threshold: if plan.asks_token[who] { 0 } else { factory.threshold }, ..factory }.octets();
         assert!(ours.call(&Call::Initialize { own, settings }).is_ok(), "the settings are right");
         ours
     }
@@ -346,7 +352,13 @@ impl End for Ours {
     }
 
     fn receive(&mut self, now: u64, frame: &[u8]) -> Result<Turn, Fault> {
-        let verified = match frame::read(frame, &Settings::factory().groups) {
+        let body = frame::read(frame, &Settings::factory().groups);
+        if let (true, Some(Body::TokenRequest { token, .. }), Some(peer)) = (self.filters_requests, &body, self.peer()) {
+            if peer.token() == *token {
+                return Ok(Turn::default());
+            }
+        }
+        let verified = match body {
             Some(Body::Commit { .. }) => true,
             Some(Body::Confirm { counter }) => {
                 self.pair().is_some_and(|pair| chip::right(self.password, &pair, counter, &frame[frame::FRONT..]))

@@ -4,6 +4,7 @@ use std::hint::black_box;
 use std::time::{Duration, Instant};
 
 use crate::interface::{engines, Call, Engine, Lent};
+use crate::plain::frame::TOKEN_REQUIRED;
 use crate::plain::octets::{put16, put32, Address};
 use crate::plain::peer::{at, RECORD};
 use crate::plain::table::{Groups, Settings, COMMIT, HEADER};
@@ -130,6 +131,8 @@ fn rows(slots: usize) -> Vec<Row> {
     put32(&mut late, HEADER + RECORD * (slots - 1) + at::T0, NOW - 1);
     let commit = frame(1, 19, &random.octets(96));
     let confirm = frame(2, 1, &random.octets(32));
+    let mut request = frame(1, group(slots - 1), &[9; 32]);
+    request[4] = TOKEN_REQUIRED as u8;
     let receive = |address: Address, frame: &[u8], verified: u8| Call::Receive {
         address,
         now: NOW,
@@ -147,6 +150,7 @@ fn rows(slots: usize) -> Vec<Row> {
         row("expire: a Commit again", &late, Call::Expire { now: NOW }, 0),
         row("initiate: a new peer", &one_free, Call::Initiate { address: stranger, now: NOW, fresh: fresh.clone() }, 0),
         row("receive: a Commit, pair formed", &one_free, receive(stranger, &commit, 1), 0),
+        row("receive: a 76, a Commit again", &late, receive(last, &request, 0), 0),
         row("receive: a Confirm, dropped", &confirmed, receive(last, &confirm, 0), 0),
         row("receive: a Confirm, accepted", &confirmed, receive(last, &confirm, 1), 0),
         row("write_record: a Commit", &late, Call::WriteRecord { address: last, sequence: 1, value: vec![], room: 500 }, 0),
@@ -157,6 +161,11 @@ fn rows(slots: usize) -> Vec<Row> {
 
 fn address(slot: usize) -> Address {
     [2, 0, 0, 0, 1, slot as u8]
+}
+
+/// The group of what a slot has.
+fn group(slot: usize) -> u16 {
+    GROUPS.list[slot / 4 % 2]
 }
 
 fn fresh(random: &mut Random) -> Vec<u8> {
@@ -195,7 +204,7 @@ fn record(random: &mut Random, table: &mut [u8], slot: usize, kind: Kind) {
     octets.fill(0);
     octets[at::IN_USE] = 1;
     octets[at::ADDRESS..at::STATE].copy_from_slice(&address(slot));
-    let group = GROUPS.list[slot / 4 % 2];
+    let group = group(slot);
     let commit = if group == 19 { 96 } else { 144 };
     if !matches!(kind, Kind::Linked) {
         octets[at::STATE] = 1;

@@ -32,7 +32,7 @@ pub fn run(words: &[String]) -> Result<bool, String> {
 /// What the words say is played: two of ours, A starting and no delay, unless they say otherwise.
 fn plan(words: &[&str]) -> Result<Plan, String> {
     let mut plan = Plan::ours(0);
-    let (mut back, mut answer, mut request, mut later) = (None, None, None, 0);
+    let (mut back, mut answer, mut asks, mut later) = (None, None, None, 0);
     for word in words {
         match word.split_once('=') {
             Some(("there", ms)) => plan.takes[0] = number(ms)?,
@@ -43,10 +43,12 @@ fn plan(words: &[&str]) -> Result<Plan, String> {
             Some(("starts", "both")) => plan.starts = BOTH,
             Some(("later", ms)) => later = number(ms)?,
             Some(("answer", ms)) => answer = Some(number(ms)?),
-            Some(("request", ms)) => request = Some(number(ms)?),
+            Some(("asks", ms)) => asks = Some(number(ms)?),
             Some(("token", "a")) => plan.asks_token = [true, false],
             Some(("token", "b")) => plan.asks_token = [false, true],
             Some(("token", "both")) => plan.asks_token = [true; 2],
+            Some(("requests", "all")) => plan.filters_requests = false,
+            Some(("requests", "new")) => plan.filters_requests = true,
             Some(("password", "same")) => plan.same_password = true,
             Some(("password", "other")) => plan.same_password = false,
             _ => return Err(format!("not a word of this program: {word}")),
@@ -58,8 +60,8 @@ fn plan(words: &[&str]) -> Result<Plan, String> {
     if let Some(ms) = answer {
         (plan.makers, plan.chip[1]) = (WITH_MESH, ms);
     }
-    // With a request time it is the access point that answers 76 to every Commit.
-    if let Some(ms) = request {
+    // With a time to ask it is the access point that answers 76 to every Commit.
+    if let Some(ms) = asks {
         (plan.makers, plan.chip[1]) = (WITH_ACCESS_POINT, ms);
     }
     Ok(plan)
@@ -138,13 +140,18 @@ const WITH_MESH: [Maker; 2] = [Maker::Ours, Maker::Mesh];
 const WITH_ACCESS_POINT: [Maker; 2] = [Maker::Ours, Maker::AccessPoint];
 const BOTH: [Option<u64>; 2] = [Some(0); 2];
 
-const SERIES: [Series; 10] = [
+const SERIES: [Series; 11] = [
     Series { name: "one starts", over: "delay", plan: Plan::ours },
     Series { name: "both start", over: "delay", plan: |ms| Plan { starts: BOTH, ..Plan::ours(ms) } },
     Series {
         name: "one starts, the other asks for a token",
         over: "delay",
         plan: |ms| Plan { asks_token: [false, true], ..Plan::ours(ms) },
+    },
+    Series {
+        name: "one starts, the other asks for a token, hosts filter 76s",
+        over: "delay",
+        plan: |ms| Plan { asks_token: [false, true], filters_requests: true, ..Plan::ours(ms) },
     },
     Series { name: "one starts", over: "chip time", plan: |ms| Plan { chip: [ms; 2], ..Plan::ours(0) } },
     Series { name: "both start", over: "chip time", plan: |ms| Plan { chip: [ms; 2], starts: BOTH, ..Plan::ours(0) } },

@@ -184,8 +184,16 @@ impl History {
         Ok(())
     }
 
-    /// (a) "The table's link flag, mark, group and commits say just this", for every address.
+    /// (a) "The table's link flag, mark, group and commits say just this", for every address; and with (d), Sync counts the
+    /// repeats of a run in being, since it began or, once its pair stands, since then.
     pub fn agrees(&self, table: &[u8]) -> Result<(), String> {
+        for peer in slots(table).iter().map(Peer).filter(|peer| peer.has_run()) {
+            let run = self.peers.get(peer.address()).and_then(|peer| peer.run.as_ref());
+            let repeats = run.map(|run| run.repeats[usize::from(run.stands)]);
+            if repeats != Some(u32::from(peer.sync())) {
+                return Err(format!("(d) Sync is {} with {:02x?}, and the repeats are {repeats:?}", peer.sync(), peer.address()));
+            }
+        }
         let mut linked = 0;
         for peer in slots(table).iter().map(Peer).filter(|peer| peer.has_link()) {
             let pair = Pair { group: peer.link_group(), own: *peer.link_own(), peer: *peer.link_peer() };

@@ -55,7 +55,10 @@ impl Tally {
             self.agreed, self.parted
         );
         println!("    (c) for each link the other had formed the pair");
-        println!("    (d) at most {} repeats before the pair stood, {} after", self.repeats[0], self.repeats[1]);
+        println!(
+            "    (d) at most {} repeats before the pair stood, {} after; Sync counted them, after each call",
+            self.repeats[0], self.repeats[1]
+        );
     }
 }
 

@@ -14,6 +14,7 @@ BLOCKS = [
         ("one starts", "one starts"),
         ("both start", "both start at once"),
         ("one starts, the other asks for a token", "one starts, a token is asked for"),
+        ("one starts, the other asks for a token, hosts filter 76s", "the same, the hosts filter 76s"),
         ("one starts, other password", "one starts, passwords differ"),
     ]),
     ("The chip takes so long for a frame, the air nothing (chip time)", "chip time", [
