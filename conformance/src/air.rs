@@ -222,7 +222,7 @@ pub const EVENTS: [&str; 4] = ["none", "accepted", "run given up", "link ended"]
 fn words(octets: &[u8]) -> String {
     match frame::read(octets, &Settings::factory().groups) {
         Some(Body::Commit { group, .. }) => format!("Commit, group {group}"),
-        Some(Body::Confirm { counter }) => format!("Confirm, counter {counter}"),
+        Some(Body::Confirm { counter, .. }) => format!("Confirm, counter {counter}"),
         Some(Body::TokenRequest { group, .. }) => format!("76, group {group}"),
         Some(Body::GroupRefusal { group }) => format!("77, group {group}"),
         _ => "a frame of another kind".into(),
@@ -360,8 +360,8 @@ impl End for Ours {
         }
         let verified = match body {
             Some(Body::Commit { .. }) => true,
-            Some(Body::Confirm { counter }) => {
-                self.pair().is_some_and(|pair| chip::right(self.password, &pair, counter, &frame[frame::FRONT..]))
+            Some(Body::Confirm { counter, .. }) => {
+                self.pair().is_some_and(|pair| chip::right(self.password, &pair, counter, &frame[frame::FRONT..frame::CONFIRM_LEN]))
             }
             _ => false,
         };

@@ -116,6 +116,9 @@ impl Batch {
     }
 }
 
+/// How many elements stand behind the Confirm of one row.
+const ELEMENTS: usize = 64;
+
 fn rows(slots: usize) -> Vec<Row> {
     let mut random = Random::new(7);
     let fresh = fresh(&mut random);
@@ -131,6 +134,7 @@ fn rows(slots: usize) -> Vec<Row> {
     put32(&mut late, HEADER + RECORD * (slots - 1) + at::T0, NOW - 1);
     let commit = frame(1, 19, &random.octets(96));
     let confirm = frame(2, 1, &random.octets(32));
+    let followed = [confirm.clone(), [221, 15].into_iter().chain([7; 15]).collect::<Vec<u8>>().repeat(ELEMENTS)].concat();
     let mut request = frame(1, group(slots - 1), &[9; 32]);
     request[4] = TOKEN_REQUIRED as u8;
     let receive = |address: Address, frame: &[u8], verified: u8| Call::Receive {
@@ -146,6 +150,8 @@ fn rows(slots: usize) -> Vec<Row> {
         row("sound: kill of the own address, refused 3", &full, Call::Kill { address: OWN }, 3),
         row("the same, every slot free", &empty, Call::Kill { address: OWN }, 3),
         row("read: a Commit", &full, Call::Read { frame: commit.clone() }, 0),
+        row("read: a Confirm", &full, Call::Read { frame: confirm.clone() }, 0),
+        row("read: a Confirm and 64 elements", &full, Call::Read { frame: followed }, 0),
         row("expire: none due", &full, Call::Expire { now: NOW }, 0),
         row("expire: a Commit again", &late, Call::Expire { now: NOW }, 0),
         row("initiate: a new peer", &one_free, Call::Initiate { address: stranger, now: NOW, fresh: fresh.clone() }, 0),

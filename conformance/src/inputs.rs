@@ -2,7 +2,9 @@
 //! What they are made from is drawn from a small pool, so that equal commits, known peers and near deadlines are common.
 
 use crate::interface::Call;
-use crate::plain::frame::{commit_len, scalar_len, COMMIT as COMMIT_FRAME, CONFIRM, GROUP_REFUSED, TOKEN_REQUIRED, VALUE};
+use crate::plain::frame::{
+    commit_len, scalar_len, COMMIT as COMMIT_FRAME, CONFIRM, CONFIRM_LEN, GROUP_REFUSED, LONGEST, TOKEN_REQUIRED, VALUE,
+};
 use crate::plain::octets::{get16, get32, put16, put32, Address};
 use crate::plain::peer::{at, Peer, RECORD};
 use crate::plain::table::{slots_for, Groups, Settings, COMMIT, HEADER, HIGHEST_THRESHOLD, SLOTS, TOKEN};
@@ -174,7 +176,7 @@ impl Pool {
         };
         let mut frame = match random.below(20) {
             0..=8 => front(COMMIT_FRAME, 0, group, [self.token(random), self.commit(random, group)].concat()),
-            9..=12 => front(CONFIRM, 0, self.counter(random, table), random.octets(VALUE)),
+            9..=12 => front(CONFIRM, 0, self.counter(random, table), [random.octets(VALUE), elements(random)].concat()),
             13..=14 => {
                 let token = self.token(random);
                 front(COMMIT_FRAME, TOKEN_REQUIRED, group, if token.is_empty() { vec![7] } else { token })
@@ -414,13 +416,30 @@ fn front(sequence: u16, status: u16, field: u16, rest: Vec<u8>) -> Vec<u8> {
     frame
 }
 
+/// What may follow a Confirm: mostly nothing or a few elements, at times as many as there is room for, up to the end or to one octet past it.
+fn elements(random: &mut Random) -> Vec<u8> {
+    let room = match random.below(10) {
+        0..=5 => return Vec::new(),
+        6..=8 => random.below(60),
+        _ => random.within(LONGEST - CONFIRM_LEN - 1, LONGEST - CONFIRM_LEN + 1),
+    };
+    let mut elements = Vec::new();
+    while elements.len() + 2 <= room {
+        let most = (room - elements.len() - 2).min(255);
+        let length = *random.pick(&[0, 1, most, most, most / 2]);
+        elements.extend([random.octet(), length as u8]);
+        elements.extend(random.octets(length));
+    }
+    elements
+}
+
 fn damage_frame(random: &mut Random, frame: &mut Vec<u8>) {
     match random.below(9) {
         0 => frame.truncate(*random.pick(&[0, 1, 5, 6, 7, 8])),
         1 => frame.truncate(frame.len() - 1),
         2 => frame.push(random.octet()),
         3 => frame.resize(random.within(0, 500), 3),
-        4 => frame.resize(*random.pick(&[103, 104, 360, 361, 151, 152, 408, 409, 39, 40, 41, 264, 265, 2304, 2305, 3000]), 3),
+        4 => frame.resize(*random.pick(&[103, 104, 360, 361, 151, 152, 408, 409, 39, 40, 41, 42, 43, 264, 265, 2304, 2305, 3000]), 3),
         5 => frame[0] = *random.pick(&[0, 2, 4, 255]),
         6 => frame[1] = 1,
         7 => put16(frame, 2, *random.pick(&[0, 3, 257, 258, 512])),

@@ -157,6 +157,8 @@ pub struct Counts {
     of: [[u64; REFUSALS + 1]; KINDS.len()],
     /// Numbers that no refusal has.
     strange: u64,
+    /// Frame calls that were compared with those of their first octets.
+    alone: u64,
 }
 
 impl Counts {
@@ -167,11 +169,16 @@ impl Counts {
         }
     }
 
+    pub fn add_alone(&mut self) {
+        self.alone += 1;
+    }
+
     pub fn join(&mut self, other: &Counts) {
         for (mine, theirs) in self.of.iter_mut().flatten().zip(other.of.iter().flatten()) {
             *mine += theirs;
         }
         self.strange += other.strange;
+        self.alone += other.alone;
     }
 
     pub fn total(&self) -> u64 {
@@ -202,6 +209,9 @@ impl Counts {
         row("all", all);
         if self.strange > 0 {
             println!("  {} calls returned a number that no refusal has", self.strange);
+        }
+        if self.alone > 0 {
+            println!("  {} frame calls with more than a Confirm's 40 octets, each as with the first 40 alone", self.alone);
         }
     }
 }

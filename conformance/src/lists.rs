@@ -532,7 +532,7 @@ fn says(body: Option<Body>, sent: &Sent) -> bool {
         Some(Body::Commit { group, .. }) => (sent.sequence, sent.status, sent.group, sent.counter) == (1, 0, group, 0),
         Some(Body::TokenRequest { group, .. }) => (sent.sequence, sent.status, sent.group, sent.counter) == (1, 76, group, 0),
         Some(Body::GroupRefusal { group }) => (sent.sequence, sent.status, sent.group, sent.counter) == (1, 77, group, 0),
-        Some(Body::Confirm { counter }) => (sent.sequence, sent.status, sent.group, sent.counter) == (2, 0, 0, counter),
+        Some(Body::Confirm { counter, elements: [] }) => (sent.sequence, sent.status, sent.group, sent.counter) == (2, 0, 0, counter),
         _ => false,
     }
 }

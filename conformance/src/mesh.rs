@@ -148,7 +148,7 @@ impl End for Mesh {
     fn receive(&mut self, now: u64, frame: &[u8]) -> Result<Turn, Fault> {
         Ok(match frame::read(frame, &Groups { count: 1, list: [GROUP, 0] }) {
             Some(Body::Commit { commit, .. }) => self.on_commit(now, commit),
-            Some(Body::Confirm { counter }) => self.on_confirm(now, counter, &frame[frame::FRONT..]),
+            Some(Body::Confirm { counter, .. }) => self.on_confirm(now, counter, &frame[frame::FRONT..frame::CONFIRM_LEN]),
             _ => Turn::default(),
         })
     }

@@ -1,10 +1,11 @@
 //! The engines side by side: each has a table of its own, makes every call, and is compared.
 
 use crate::history::Answer;
-use crate::interface::{engines, Call, Counts, Lent};
+use crate::interface::{engines, Call, Counts, Engine, Lent};
+use crate::plain::frame::CONFIRM_LEN;
 use crate::plain::peer::Peer;
 use crate::plain::table::slots;
-use crate::report::difference;
+use crate::report::{difference, Outcome};
 use crate::trace::{call_line, expected_lines, shorten, table_lines};
 
 /// Octets before and after each table that no call may touch.
@@ -61,6 +62,28 @@ fn moved_deadline(before: &[u8], after: &[u8], answer: &Answer) -> Option<String
     None
 }
 
+/// The start of a status 0 Confirm, up to its counter.
+const CONFIRM_START: [u8; 6] = [3, 0, 2, 0, 0, 0];
+
+/// The same call with the first 40 octets of its frame alone, if that is a longer status 0 Confirm. One that is refused 7 was not read.
+fn alone(call: &Call, number: u32) -> Option<Call> {
+    let mut alone = call.clone();
+    match &mut alone {
+        Call::Receive { frame, .. } if number != 7 && frame.len() > CONFIRM_LEN && frame.starts_with(&CONFIRM_START) => {
+            frame.truncate(CONFIRM_LEN)
+        }
+        _ => return None,
+    }
+    Some(alone)
+}
+
+/// "A frame call does just what it would do with the first 40 octets alone": what differs, in words.
+fn unlike_alone(engine: &dyn Engine, alone: &Call, before: &[u8], got: Outcome) -> Option<String> {
+    let (mut table, mut lent) = (before.to_vec(), Lent::for_call(alone));
+    let number = alone.make(engine, &mut table, &mut lent);
+    difference(got, (number, &lent, &table)).map(|what| format!("  unlike the call with the first 40 octets\n{what}"))
+}
+
 /// A difference, or a fault of one engine, with the lines that make it again.
 pub struct Fault {
     pub what: String,
@@ -108,6 +131,9 @@ impl Together {
             if !self.tables[place].intact() {
                 fault = Some("  octets beside the table were written".into());
             }
+            if let Some(alone) = alone(call, number) {
+                fault = fault.or_else(|| unlike_alone(engine, &alone, &self.before, (number, &got, table)));
+            }
             if let Some((number_0, lent_0)) = &first {
                 fault = fault.or_else(|| difference((number, &got, table), (*number_0, lent_0, self.tables[0].table())));
             }
@@ -119,6 +145,9 @@ impl Together {
         }
         let (number, lent) = first.expect("there is an engine");
         counts.add(call, number);
+        if alone(call, number).is_some() {
+            counts.add_alone();
+        }
         if number == 0 && call.may_change() {
             self.known = Known::Sound;
         }

@@ -30,8 +30,9 @@ pub const VALUE: usize = 32;
 pub const FRONT: usize = 8;
 
 const SHORTEST: usize = 6;
-const LONGEST: usize = 2304;
-const CONFIRM_LEN: usize = FRONT + VALUE;
+pub const LONGEST: usize = 2304;
+/// Octets of a Confirm, behind which elements may stand.
+pub const CONFIRM_LEN: usize = FRONT + VALUE;
 
 /// What a received body says. Parts are the received octets themselves.
 #[derive(Clone, Copy)]
@@ -46,8 +47,8 @@ pub enum Body<'a> {
     GroupRefusal { group: u16 },
     /// Commit, any other status.
     FailedCommit { status: u16 },
-    /// Confirm, status 0.
-    Confirm { counter: u16 },
+    /// Confirm, status 0, and the elements that follow it.
+    Confirm { counter: u16, elements: &'a [u8] },
     /// Confirm, any other status.
     FailedConfirm { status: u16 },
 }
@@ -93,8 +94,19 @@ fn read_confirm(frame: &[u8], status: u16) -> Option<Body<'_>> {
     if status != SUCCESS {
         return Some(Body::FailedConfirm { status });
     }
-    // "Confirm, status 0: counter (2), value (32), total 40."
-    (frame.len() == CONFIRM_LEN).then(|| Body::Confirm { counter: get16(frame, 6) })
+    // "Confirm, status 0: counter (2), value (32), total 40", then "any run of whole elements".
+    let (front, elements) = frame.split_first_chunk::<CONFIRM_LEN>()?;
+    are_whole(elements).then(|| Body::Confirm { counter: get16(front, 6), elements })
+}
+
+/// "Identifier octet, length octet, contents, repeated to the end."
+fn are_whole(mut elements: &[u8]) -> bool {
+    while !elements.is_empty() {
+        let [_, length, rest @ ..] = elements else { return false };
+        let Some(next) = rest.get(usize::from(*length)..) else { return false };
+        elements = next;
+    }
+    true
 }
 
 /// A frame to be written: "a status 0 Commit in a listed group, a 76, a 77 or a status 0 Confirm".

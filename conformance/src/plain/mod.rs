@@ -10,7 +10,7 @@ pub mod table;
 
 use crate::interface::{Engine, ANSWER, PARTS, SETTINGS};
 use engine::{Answer, Refusal};
-use frame::{Body, Parts, COMMIT, CONFIRM, FRONT, GROUP_REFUSED, SUCCESS, TOKEN_REQUIRED};
+use frame::{Body, Parts, COMMIT, CONFIRM, CONFIRM_LEN, FRONT, GROUP_REFUSED, SUCCESS, TOKEN_REQUIRED};
 use octets::{put16, put32, Address};
 
 /// The functions of the C interface on slices.
@@ -132,16 +132,16 @@ fn answer_of(said: &Answer) -> [u8; ANSWER] {
     answer
 }
 
-/// 0-1 sequence; 2-3 status; 4-5 group; 6-7 counter; 8-11 and 12-15 the token's offset and length; 16-19 the offset of the
-/// scalar, or of a Confirm's value. What is not looked at is 0.
+/// 0-1 sequence; 2-3 status; 4-5 group; 6-7 counter; 8-11 and 12-15 offset and length of the token, or of what follows a status
+/// 0 Confirm; 16-19 the offset of the scalar, or of a Confirm's value. What is not looked at is 0.
 fn parts_of(body: &Body) -> [u8; PARTS] {
-    let (sequence, status, group, counter, token, last) = match *body {
+    let (sequence, status, group, counter, handed, last) = match *body {
         Body::Commit { group, token, .. } => (COMMIT, SUCCESS, group, 0, (FRONT, token.len()), FRONT + token.len()),
         Body::UnsupportedCommit { group } => (COMMIT, SUCCESS, group, 0, (0, 0), 0),
         Body::TokenRequest { group, token } => (COMMIT, TOKEN_REQUIRED, group, 0, (FRONT, token.len()), 0),
         Body::GroupRefusal { group } => (COMMIT, GROUP_REFUSED, group, 0, (0, 0), 0),
         Body::FailedCommit { status } => (COMMIT, status, 0, 0, (0, 0), 0),
-        Body::Confirm { counter } => (CONFIRM, SUCCESS, 0, counter, (0, 0), FRONT),
+        Body::Confirm { counter, elements } => (CONFIRM, SUCCESS, 0, counter, (CONFIRM_LEN, elements.len()), FRONT),
         Body::FailedConfirm { status } => (CONFIRM, status, 0, 0, (0, 0), 0),
     };
     let mut parts = [0; PARTS];
@@ -149,8 +149,8 @@ fn parts_of(body: &Body) -> [u8; PARTS] {
     put16(&mut parts, 2, status);
     put16(&mut parts, 4, group);
     put16(&mut parts, 6, counter);
-    put32(&mut parts, 8, token.0 as u32);
-    put32(&mut parts, 12, token.1 as u32);
+    put32(&mut parts, 8, handed.0 as u32);
+    put32(&mut parts, 12, handed.1 as u32);
     put32(&mut parts, 16, last as u32);
     parts
 }

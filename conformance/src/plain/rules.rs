@@ -308,7 +308,7 @@ pub fn receive(peer: Option<&mut Record>, turn: &Turn, body: &Body) -> Result<St
 
 fn receive_without_run(peer: Option<&mut Record>, turn: &Turn, body: &Body) -> Result<Step, Refusal> {
     match *body {
-        Body::Confirm { counter } => match peer {
+        Body::Confirm { counter, .. } => match peer {
             Some(peer) if peer.has_link() => Ok(confirm_at_link(peer, turn, counter)),
             _ => Ok(drop_frame()),
         },
@@ -332,7 +332,7 @@ fn receive_in_committed(peer: &mut Record, turn: &Turn, body: &Body) -> Step {
 fn receive_in_confirmed(peer: &mut Record, turn: &Turn, body: &Body) -> Step {
     match *body {
         Body::Commit { group, .. } | Body::UnsupportedCommit { group } => commit_in_confirmed(peer, turn, group),
-        Body::Confirm { counter } => confirm_in_confirmed(peer, turn, counter),
+        Body::Confirm { counter, .. } => confirm_in_confirmed(peer, turn, counter),
         // "status nonzero, drop"
         _ => drop_frame(),
     }

@@ -9,3 +9,4 @@ pub mod Isolation
 pub mod Sends
 pub mod Drops
 pub mod Deadlines
+pub mod Elements

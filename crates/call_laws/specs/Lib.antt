@@ -5,3 +5,4 @@ pub mod Isolation
 pub mod Writable
 pub mod Drops
 pub mod Deadlines
+pub mod Elements

@@ -17,7 +17,7 @@ use Rattle.edges.specs.Edges.{edges, allHold}
 pub edges-hold : allHold edges ≡ true
 unfolding octets.part octets.num octets.oct octets.allZero octets.same scan.allBelow scan.countBelow scan.firstBelow scan.lastBelow
     groups.scalarLength groups.elementLength groups.commitLength groups.stored groups.listed groups.placeFrom groups.place groups.indexOf
-    groups.freshAt groups.freshFor groups.tailsOk groups.freshOk frame.readListed frame.readOffer frame.readCommit frame.confirmEnds
+    groups.freshAt groups.freshFor groups.tailsOk groups.freshOk frame.readListed frame.readOffer frame.readCommit frame.wholeAfter frame.wholeElements frame.elementsOf
     frame.readConfirm frame.readBody frame.readTokenRequest frame.scalarOf frame.elementOf frame.commitOf frame.head layout.noRun layout.noLink layout.noPeer
     tables.slot tables.openCount tables.freeSlot tables.lookBy tables.recounted tables.withPeer tables.placed parts.withSync parts.withSc parts.withToken
     parts.heardAgain parts.withRun parts.withLink book.deadline book.due book.holds book.linkedWith book.t0Due book.t1Due book.expired

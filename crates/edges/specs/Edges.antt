@@ -119,6 +119,18 @@ commitOctets rest = head 1 0 19 ++ replicate rest 7
 abbrev pub confirmOctets : ℕ → ℕ → List ℕ
 confirmOctets counter rest = head 2 0 counter ++ replicate rest 7
 
+-- a vendor's element with so many octets of contents, and so many octets of elements: some of 255 octets of contents, then one
+abbrev pub element : ℕ → List ℕ
+element n = 221 ∷ n ∷ replicate n 7
+
+abbrev pub elements : ℕ → ℕ → List ℕ
+elements zero n = element n
+elements (suc k) n = element 255 ++ elements k n
+
+-- a status 0 Confirm of 40 octets with others behind it
+abbrev pub confirmWith : List ℕ → List ℕ
+confirmWith behind = confirmOctets 1 32 ++ behind
+
 -- a 76 for a group with a token of 32 octets
 abbrev pub requestOctets : ℕ → List ℕ
 requestOctets group = head 1 76 group ++ replicate 32 5
@@ -271,6 +283,14 @@ edges =
     -- "Confirm: 40 read, 41 refused"
     ∷ case (Received (confirmOctets 1 32)) (2 ∷ 0 ∷ 0 ∷ 1 ∷ 0 ∷ [])
     ∷ case (Received (confirmOctets 1 33)) (7 ∷ [])
+    -- request a, "40 octets and any run of whole elements, 2,304 octets in all at most": no contents, 42 octets; one octet of contents there, and not there;
+    -- an identifier alone behind a whole element; eight elements of 257 octets and one of 208, and of 209
+    ∷ case (Received (confirmWith (element 0))) (2 ∷ 0 ∷ 0 ∷ 1 ∷ 0 ∷ [])
+    ∷ case (Received (confirmWith (element 1))) (2 ∷ 0 ∷ 0 ∷ 1 ∷ 0 ∷ [])
+    ∷ case (Received (confirmWith (221 ∷ 1 ∷ []))) (7 ∷ [])
+    ∷ case (Received (confirmWith (element 1 ++ (221 ∷ [])))) (7 ∷ [])
+    ∷ case (Received (confirmWith (elements 8 206))) (2 ∷ 0 ∷ 0 ∷ 1 ∷ 0 ∷ [])
+    ∷ case (Received (confirmWith (elements 8 207))) (7 ∷ [])
     -- "t0 set with Sync 0 at 4,294,967,290: deadline 34; not due at 33, due at 34"
     ∷ case (Deadline 4294967290) (34 ∷ [])
     ∷ case (Due 4294967290 33) []

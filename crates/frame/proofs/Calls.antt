@@ -1,4 +1,4 @@
--- The calls of `begin`, `moved`, `take16` and `taken` in a walk: each one's contract, what it is passed, that what the walk has is what it asks, and what is known of its result.
+-- The calls of `reader_at`, `moved`, `take16` and `taken` in a walk: each one's contract, what it is passed, that what the walk has is what it asks, and what is known of its result.
 -- A reader in such a walk is known whole: the slice s that the function was passed, and a place k.
 -- A `Reader` is Copy: `goes-take16` keeps what it owns, for the next call. `goes-moved` and `goes-taken` give it up.
 -- Assumes nothing.
@@ -35,8 +35,8 @@ use Rattle.octets.specs.Octets.{part, num}
 use Rattle.frame.specs.declared.Reader.{Reader}
 use Rattle.frame.proofs.Reader as T
 use Rattle.frame.proofs.Reader.Laws as T′
-use Rattle.frame.proofs.begin as begin
 use Rattle.frame.proofs.moved as moved
+use Rattle.frame.proofs.reader_at as reader-at
 use Rattle.frame.proofs.take16 as take16
 use Rattle.frame.proofs.taken as taken
 
@@ -45,8 +45,8 @@ abbrev pub B : Lfts 1 → RattleType
 B κs = T.the-row (namedLft 1 0 tt κs)
 
 module _ {M : Type 1} (𝓤 : URA M) (H : Heap 𝓤) (A : Atoms 𝓤) (mem : Memory → SProp 𝓤) (run : Routine → Fun 𝓤) where
-  abbrev pub Begin : Contract 𝓤
-  Begin = tripleOf 𝓤 H A begin.signature (begin.spec 𝓤 H A mem run)
+  abbrev pub ReaderAt : Contract 𝓤
+  ReaderAt = tripleOf 𝓤 H A reader-at.signature (reader-at.spec 𝓤 H A mem run)
 
   abbrev pub Moved : Contract 𝓤
   Moved = tripleOf 𝓤 H A moved.signature (moved.spec 𝓤 H A mem run)
@@ -73,17 +73,19 @@ module _ {M : Type 1} (𝓤 : URA M) (H : Heap 𝓤) (A : Atoms 𝓤) (W : Given
   abbrev pub OwnR : ℕ → Val → Fml
   OwnR k u = B (κ, tt) .own (h k) (u ∷ [])
 
-  -- `begin`: what s owns is had twice, and one copy is kept
-  abbrev pub to-begin : Begin 𝓤 H A mem run .Ghost
-  to-begin = (((κ, tt), (q, tt), tt, (s, tt), (v ∷ [], tt)), tt)
+  -- `reader_at`, at k: what s owns is had twice, and one copy is kept
+  module _ (k : ℕ) where
+    abbrev pub to-reader-at : ReaderAt 𝓤 H A mem run .Ghost
+    to-reader-at = (((κ, tt), (q, tt), tt, (s, (k, tt)), (v ∷ [], (vint w64 k ∷ [], tt))), tt)
 
-  pub goes-begin : ent 𝓤 (⋆ 𝓤 H A (‵ OwnS ∷ (‵ (flft κ q) ⊛ ‵ ftrue) ∷ [])) (sep 𝓤 (Begin 𝓤 H A mem run .pre to-begin) (sem 𝓤 H A OwnS))
-  goes-begin =
-      qed W (‵ OwnS ∷ (‵ (flft κ q) ⊛ ‵ ftrue) ∷ []) ∵ use1 W (‵ OwnS ⊛ ‵ OwnS) (shr-slice-copy 𝓤 H A W (named 0) κ u8 .twice s (v ∷ [])) $ split ! $ nothing ! $ move ! (1 ∷ 0 ∷ []) $ fjoin ! $ move ! (2 ∷ 0 ∷ []) $
-      use2 W (raw (Begin 𝓤 H A mem run .pre to-begin)) (qed W ((‵ (flft κ q) ⊛ ‵ ftrue) ∷ ‵ (owns (ShrSlice (named 0) κ u8 ∷ []) (s, tt) (v ∷ [], tt)) ∷ []) ∵ join ! $ frame ! $ done !) $ frame ! $ done !
+    pub goes-reader-at : k < 2 ^ 64 → ent 𝓤 (⋆ 𝓤 H A (‵ OwnS ∷ (‵ (flft κ q) ⊛ ‵ ftrue) ∷ [])) (sep 𝓤 (ReaderAt 𝓤 H A mem run .pre to-reader-at) (sem 𝓤 H A OwnS))
+    goes-reader-at fits =
+        qed W (‵ OwnS ∷ (‵ (flft κ q) ⊛ ‵ ftrue) ∷ []) ∵ use1 W (‵ OwnS ⊛ ‵ OwnS) (shr-slice-copy 𝓤 H A W (named 0) κ u8 .twice s (v ∷ [])) $ split ! $
+        nothing ! $ owned ! usize (Is usize) (uint-makes 𝓤 H A W w64) k _ (refl, fits) $ fjoin ! $ move ! (1 ∷ 0 ∷ []) $ fjoin ! $ move ! (2 ∷ 0 ∷ []) $
+        use2 W (raw (ReaderAt 𝓤 H A mem run .pre to-reader-at)) (qed W ((‵ (flft κ q) ⊛ ‵ ftrue) ∷ ‵ (owns (ShrSlice (named 0) κ u8 ∷ usize ∷ []) (s, (k, tt)) (v ∷ [], (vint w64 k ∷ [], tt))) ∷ []) ∵ join ! $ frame ! $ done !) $ frame ! $ done !
 
-  pub begin-said : (r : Reader) → ent 𝓤 (ensured 𝓤 H A begin.ended (begin.clauses 𝓤 H A mem run) (κ, tt) (s, tt) tt r) (fact 𝓤 ((r .frame ≡ s) × (r .at ≡ 0)))
-  begin-said r = exE 𝓤 _ (λ ws. snd∗ 𝓤 (sem 𝓤 H A (lasts begin.ended (κ, tt) (s, tt) ws)) (fact 𝓤 ((r .frame ≡ s) × (r .at ≡ 0))))
+    pub reader-at-said : (r : Reader) → ent 𝓤 (ensured 𝓤 H A reader-at.ended (reader-at.clauses 𝓤 H A mem run) (κ, tt) (s, (k, tt)) tt r) (fact 𝓤 ((r .frame ≡ s) × (r .at ≡ k)))
+    reader-at-said r = exE 𝓤 _ (λ ws. snd∗ 𝓤 (sem 𝓤 H A (lasts reader-at.ended (κ, tt) (s, (k, tt)) ws)) (fact 𝓤 ((r .frame ≡ s) × (r .at ≡ k))))
 
   module _ (k : ℕ) (u : Val) where
     -- `take16`

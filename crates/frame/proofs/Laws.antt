@@ -13,7 +13,7 @@ use Rattle.octets.proofs.Laws.{put-put, part-add}
 use Rattle.groups.specs.Groups.{scalarLength, elementLength, commitLength, stored}
 use Rattle.frame.specs.declared.Written.{Written}
 use Rattle.frame.specs.declared.Written.the-variants.{Length, Shape, Short}
-use Rattle.frame.specs.Frame.{tokenOf, scalarOf, elementOf, commitOf, head, body}
+use Rattle.frame.specs.Frame.{elementsOf, tokenOf, scalarOf, elementOf, commitOf, head, body}
 use Rattle.frame.specs.Writing.{Drawn, Octets, Outside, written, leaves, Writes}
 
 -- ---- parts
@@ -50,6 +50,16 @@ module _ (s : List ℕ) (n : ℕ) where
   pub token-whole : (r : List ℕ) → r ≡ part s 8 n → r ≡ tokenOf s n
   unfolding tokenOf
   token-whole r e = e
+
+-- what follows a Confirm's 40 octets
+module _ (s : List ℕ) where
+  pub elements-past : length s < 40 → take (length s - length s) (drop (length s) s) ≡ elementsOf s
+  unfolding elementsOf part
+  elements-past h = part-past s (length s) (length s - length s) (omega arith) ∙ sym (drop-of-length-le s {i = 40} (omega arith))
+
+  pub elements-rest : (r : List ℕ) → 40 ≤ length s → r ≡ part s 40 (length s - 40) → r ≡ elementsOf s
+  unfolding elementsOf part
+  elements-rest r h e = e ∙ take-all (length s - 40) (drop 40 s) (omega (arith, length-drop 40 s))
 
 -- scalar and element are one part
 pub commit-is : (s : List ℕ) (g t : ℕ) → commitOf s g t ≡ part s (8 + t) (commitLength g)

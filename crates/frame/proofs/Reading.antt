@@ -1,18 +1,19 @@
 -- What each branch of the reader's functions answers, in the order of the tests.
-use mathlib.Core.Path.{_≡_, sym, ap, _∙_}
+use mathlib.Core.Path.{_≡_, refl, sym, ap, _∙_}
 use mathlib.Core.Bool.{Bool, true, false}
 use mathlib.Core.List.{List}
 use Prim.Native.Nat.{ℕ, _+_, _-_, _≤_, _<_}
 use native.Mathlib.Omega.{arith}
 use lib.Dec.{eqb}
-use lib.ListN.{length, drop, length-drop}
+use lib.ListN.{length, drop}
 use borrow.Author.Tests.{lt-ltb, le-ltb, eq-eqb, ne-eqb}
 use Rattle.groups.specs.Groups.{commitLength, listed}
 use Rattle.octets.specs.Scan.{if_then_else_}
+use Rattle.frame.specs.declared.Field.{Field}
 use Rattle.frame.specs.declared.Head.{Head}
 use Rattle.frame.specs.declared.Body.{Body}
 use Rattle.frame.specs.declared.Body.the-variants.{Commit, Unsupported, TokenRequest, GroupRefusal, OtherCommit, Confirm, OtherConfirm, Malformed}
-use Rattle.frame.specs.Frame.{algorithmOf, sequenceOf, statusOf, headOf, groupOf, counterOf, readListed, readOffer, readTokenRequest, readGroupRefusal, readCommit, confirmEnds, readConfirm, readBody}
+use Rattle.frame.specs.Frame.{field, fieldAt, algorithmOf, sequenceOf, statusOf, headOf, groupOf, counterOf, readListed, readOffer, readTokenRequest, readGroupRefusal, readCommit, wholeElements, elementsOf, readConfirm, readBody}
 
 -- each number of the three that every body starts with
 module _ (h : Head) (s : List ℕ) (e : h ≡ headOf s) where
@@ -22,18 +23,40 @@ module _ (h : Head) (s : List ℕ) (e : h ≡ headOf s) where
   pub head-sequence : h .sequence ≡ sequenceOf s
   head-sequence = ap (λ (x : Head). x .sequence) e
 
-module _ (g : ℕ) (s : List ℕ) (m : ℕ) (e : m ≡ commitLength g) where
-  pub listed-short : length s < 8 + m → Malformed ≡ readListed g s
+  pub head-status : h .status ≡ statusOf s
+  head-status = ap (λ (x : Head). x .status) e
+
+  pub head-reached : h .reached ≡ 6
+  head-reached = ap (λ (x : Head). x .reached) e
+
+-- a field that was read where the reader stands, and where it stands then
+module _ (f : Field) (s : List ℕ) (at k : ℕ) (e : f ≡ fieldAt s at) (p : at ≡ k) where
+  pub field-number : f .number ≡ field s k
+  field-number = ap (λ (x : Field). x .number) e ∙ ap (field s) p
+
+  pub field-reached : f .reached ≡ k + 2
+  field-reached = ap (λ (x : Field). x .reached) e ∙ ap (λ (i : ℕ). i + 2) p
+
+-- three of them from the start are the head
+pub head-law : (a b c : Field) (s : List ℕ) → a ≡ fieldAt s 0 → b ≡ fieldAt s (a .reached) → c ≡ fieldAt s (b .reached)
+    → record { algorithm = a .number; sequence = b .number; status = c .number; reached = c .reached } ≡ headOf s
+head-law a b c s e f g =
+    let i : a .reached ≡ 2 = field-reached a s 0 0 e refl in
+    let j : b .reached ≡ 4 = field-reached b s (a .reached) 2 f i in
+    rw (field-number a s 0 0 e refl, field-number b s (a .reached) 2 f i, field-number c s (b .reached) 4 g j, field-reached c s (b .reached) 4 g j)
+
+module _ (g : ℕ) (s : List ℕ) (at m : ℕ) (p : at ≡ 8) (e : m ≡ commitLength g) where
+  pub listed-short : length s < at + m → Malformed ≡ readListed g s
   unfolding readListed
   listed-short h = rw (lt-ltb (length s) (8 + commitLength g) (omega arith))
 
-  pub listed-long : 8 + m ≤ length s → 256 < length s - (8 + m) → Malformed ≡ readListed g s
+  pub listed-long : at + m ≤ length s → 256 < length s - (at + m) → Malformed ≡ readListed g s
   unfolding readListed
   listed-long h k = rw (le-ltb (length s) (8 + commitLength g) (omega arith), lt-ltb 256 (length s - (8 + commitLength g)) (omega arith))
 
-  pub listed-read : 8 + m ≤ length s → length s - (8 + m) ≤ 256 → Commit g (length s - (8 + m)) ≡ readListed g s
+  pub listed-read : at + m ≤ length s → length s - (at + m) ≤ 256 → Commit g (length s - (at + m)) ≡ readListed g s
   unfolding readListed
-  listed-read h k = rw (e, le-ltb (length s) (8 + commitLength g) (omega arith), le-ltb 256 (length s - (8 + commitLength g)) (omega arith))
+  listed-read h k = rw (p, e, le-ltb (length s) (8 + commitLength g) (omega arith), le-ltb 256 (length s - (8 + commitLength g)) (omega arith))
 
 module _ (gs s : List ℕ) where
   pub offer-short : length s < 8 → Malformed ≡ readOffer gs s
@@ -58,9 +81,9 @@ module _ (s : List ℕ) where
   unfolding readTokenRequest
   request-long h k = rw (le-ltb (length s) 9 h, lt-ltb 264 (length s) k)
 
-  pub request-read : (g : ℕ) → 9 ≤ length s → length s ≤ 264 → g ≡ groupOf s → TokenRequest g (length s - 8) ≡ readTokenRequest s
+  pub request-read : (g at : ℕ) → 9 ≤ length s → length s ≤ 264 → g ≡ groupOf s → at ≡ 8 → TokenRequest g (length s - at) ≡ readTokenRequest s
   unfolding readTokenRequest
-  request-read g h k e = rw (le-ltb (length s) 9 h, le-ltb 264 (length s) k, e)
+  request-read g at h k e p = rw (le-ltb (length s) 9 h, le-ltb 264 (length s) k, e, p)
 
   pub refusal-other : (length s ≡ 8 → ⊥) → Malformed ≡ readGroupRefusal s
   unfolding readGroupRefusal
@@ -96,17 +119,19 @@ module _ (s : List ℕ) (x : ℕ) (e : x ≡ statusOf s) where
   unfolding readConfirm
   confirm-short h k = rw (← e, eq-eqb x 0 h, lt-ltb (length s) 40 k)
 
-  pub confirm-long : x ≡ 0 → 40 < length s → Malformed ≡ readConfirm s
-  unfolding readConfirm confirmEnds
-  confirm-long h k =
-      let l : length (drop 40 s) ≡ length s - 40 = length-drop 40 s in
-      rw (← e, eq-eqb x 0 h, le-ltb (length s) 40 (omega arith), ne-eqb (length (drop 40 s)) 0 (λ z. omega arith))
+  -- what follows the value, which stands at the offset reached behind the counter
+  module _ (h : x ≡ 0) (k : 40 ≤ length s) (at : ℕ) (b : Bool) (p : at ≡ 8) (q : b ≡ wholeElements (drop (at + 32) s)) where
+    whole : wholeElements (elementsOf s) ≡ b
+    unfolding elementsOf
+    whole = ap (λ (i : ℕ). wholeElements (drop (i + 32) s)) (sym p) ∙ sym q
 
-  pub confirm-read : (n : ℕ) → x ≡ 0 → 40 ≤ length s → length s ≤ 40 → n ≡ counterOf s → Confirm n ≡ readConfirm s
-  unfolding readConfirm confirmEnds
-  confirm-read n h k l m =
-      let d : length (drop 40 s) ≡ length s - 40 = length-drop 40 s in
-      rw (← e, eq-eqb x 0 h, le-ltb (length s) 40 k, eq-eqb (length (drop 40 s)) 0 (omega arith), m)
+    pub confirm-cut : b ≡ false → Malformed ≡ readConfirm s
+    unfolding readConfirm
+    confirm-cut l = rw (← e, eq-eqb x 0 h, le-ltb (length s) 40 k, whole, l)
+
+    pub confirm-read : (n : ℕ) → b ≡ true → n ≡ counterOf s → Confirm n ≡ readConfirm s
+    unfolding readConfirm
+    confirm-read n l m = rw (← e, eq-eqb x 0 h, le-ltb (length s) 40 k, whole, l, m)
 
 module _ (gs s : List ℕ) where
   pub body-short : length s < 6 → Malformed ≡ readBody gs s

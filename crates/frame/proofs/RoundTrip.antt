@@ -6,18 +6,21 @@ use Prim.Native.Nat.{ℕ, _+_, _-_, _≤_, _<_}
 use native.Mathlib.Omega.{arith}
 use lib.Dec.{eqb, ltb, lit<}
 use lib.ListN.{length, take, drop, length-append}
+use lib.Seq.{length-take-le}
 use borrow.Author.Tests.{le-ltb, eq-eqb, ne-eqb}
 use Rattle.octets.specs.Octets.{part, oct, allZero, Bytes}
 use Rattle.octets.specs.Scan.{if_then_else_}
-use Rattle.octets.proofs.Laws.{num-oct, oct-part, part-add, part-all, length-part}
+use Rattle.octets.proofs.Laws.{num-oct, oct-part, part-add, part-all, length-part, bytes-take}
 use Rattle.groups.specs.Groups.{width, commitLength, listed, stored}
 use Rattle.groups.proofs.Laws.{commit-fits, stored-tail}
 use Rattle.frame.specs.declared.Body.the-variants.{Commit, TokenRequest, GroupRefusal, OtherCommit, Confirm, OtherConfirm, Malformed}
-use Rattle.frame.specs.Frame.{algorithmOf, sequenceOf, statusOf, groupOf, counterOf, readListed, readTokenRequest, readGroupRefusal, readCommit, confirmEnds, readConfirm, readBody, tokenOf, commitOf, valueOf, isOffer, head, body, commitBody, tokenRequestBody, groupRefusalBody, confirmBody}
+use Rattle.frame.specs.Frame.{algorithmOf, sequenceOf, statusOf, groupOf, counterOf, readListed, readTokenRequest, readGroupRefusal, readCommit, wholeElements, elementsOf, readConfirm, readBody, tokenOf, commitOf, valueOf, isOffer, head, body, commitBody, tokenRequestBody, groupRefusalBody, confirmBody}
 use Rattle.frame.specs.Writing.{Octets, drawCommit, drawTokenRequest, drawGroupRefusal, drawConfirm}
 use Rattle.frame.proofs.Laws.{part-mid, length-head, length-body, commit-is}
 use Rattle.frame.proofs.Reading.{listed-read, offer-listed, request-read, refusal-read, commit-offer, commit-request, commit-refusal, confirm-read, body-commit, body-confirm}
+use Rattle.frame.proofs.Elements.{whole-end}
 use Rattle.frame.proofs.Shapes.{CommitShape, commit-shape, TokenRequestShape, token-request-shape, GroupRefusalShape, group-refusal-shape, ConfirmShape, confirm-shape}
+use Rattle.frame.proofs.Trailing.{trailing}
 
 -- ---- the fields and the parts of a body
 
@@ -59,7 +62,7 @@ commit-reads gs g t c l h k e =
     let w : commitLength g ≤ width = commit-fits g in
     let m : length (body 1 0 g t c) - (8 + commitLength g) ≡ length t = omega arith in
     let r : Commit g (length t) ≡ readListed g (body 1 0 g t c) =
-    ap (Commit g) (sym m) ∙ listed-read g (body 1 0 g t c) (commitLength g) refl (omega arith) (omega arith) in
+    ap (Commit g) (sym m) ∙ listed-read g (body 1 0 g t c) 8 (commitLength g) refl refl (omega arith) (omega arith) in
     sym (body-commit gs (body 1 0 g t c) 3 (omega arith) (omega arith) (sym (body-algorithm 1 0 g t c)) 1 (sym (body-sequence 1 0 g t c (lit< tt))) refl _ refl
     (commit-offer gs (body 1 0 g t c) 0 (sym (body-status 1 0 g t c (lit< tt))) _ refl
     (offer-listed gs (body 1 0 g t c) g true (omega arith) (sym (body-third 1 0 g t c h)) (sym l) _ refl r)))
@@ -79,7 +82,7 @@ token-request-reads gs g t h j k =
     let n : length (body 1 76 g t []) ≡ 8 + length t + 0 = length-body 1 76 g t [] in
     let m : length (body 1 76 g t []) - 8 ≡ length t = omega arith in
     let r : TokenRequest g (length t) ≡ readTokenRequest (body 1 76 g t []) =
-    ap (TokenRequest g) (sym m) ∙ request-read (body 1 76 g t []) g (omega arith) (omega arith) (sym (body-third 1 76 g t [] h)) in
+    ap (TokenRequest g) (sym m) ∙ request-read (body 1 76 g t []) g 8 (omega arith) (omega arith) (sym (body-third 1 76 g t [] h)) refl in
     sym (body-commit gs (body 1 76 g t []) 3 (omega arith) (omega arith) (sym (body-algorithm 1 76 g t [])) 1 (sym (body-sequence 1 76 g t [] (lit< tt))) refl _ refl
     (commit-request gs (body 1 76 g t []) 76 (sym (body-status 1 76 g t [] (lit< tt))) _ refl r))
 
@@ -102,7 +105,7 @@ unfolding confirmBody
 confirm-reads gs n v h e =
     let l : length (body 2 0 n [] v) ≡ 8 + 0 + length v = length-body 2 0 n [] v in
     sym (body-confirm gs (body 2 0 n [] v) 3 (omega arith) (omega arith) (sym (body-algorithm 2 0 n [] v)) 2 (sym (body-sequence 2 0 n [] v (lit< tt))) refl _ refl
-    (confirm-read (body 2 0 n [] v) 0 (sym (body-status 2 0 n [] v (lit< tt))) n refl (omega arith) (omega arith) (sym (body-third 2 0 n [] v h))))
+    (confirm-read (body 2 0 n [] v) 0 (sym (body-status 2 0 n [] v (lit< tt))) refl (omega arith) 8 true refl (sym (whole-end (body 2 0 n [] v) 40 (omega arith))) n refl (sym (body-third 2 0 n [] v h))))
 
 pub confirm-back : (n : ℕ) (v : List ℕ) → length v ≡ 32 → valueOf (confirmBody n v) ≡ v
 unfolding confirmBody valueOf
@@ -140,7 +143,7 @@ offer-sequence : (gs s : List ℕ) → (sequenceOf s ≡ 1 → ⊥) → isOffer 
 unfolding readBody readConfirm
 offer-sequence gs s h =
     rw (ne-eqb (sequenceOf s) 1 h)
-    (go (ltb (length s) 6) (ltb 2304 (length s)) (eqb (algorithmOf s) 3) (eqb (sequenceOf s) 2) (eqb (statusOf s) 0) (ltb (length s) 40) (confirmEnds (drop 40 s)))
+    (go (ltb (length s) 6) (ltb 2304 (length s)) (eqb (algorithmOf s) 3) (eqb (sequenceOf s) 2) (eqb (statusOf s) 0) (ltb (length s) 40) (wholeElements (elementsOf s)))
   where
     go : (a b c d e f i : Bool) → isOffer
         (if a then Malformed else if b then Malformed else if c then
@@ -237,12 +240,17 @@ group-refusal-again gs s g b e =
     let z = body-whole s 0 0 b (w .head .algorithm) (w .total) in
     ap Octets (rw (w .sequence, w .status, w .group) at z)
 
--- a status 0 Confirm
-pub confirm-again : (gs s : List ℕ) (n : ℕ) → Bytes s → readBody gs s ≡ Confirm n → drawConfirm n (valueOf s) ≡ Octets s
+-- a status 0 Confirm of 40 octets
+confirm-again : (gs s : List ℕ) (n : ℕ) → Bytes s → readBody gs s ≡ Confirm n → length s ≡ 40 → drawConfirm n (valueOf s) ≡ Octets s
 unfolding drawConfirm confirmBody valueOf part
-confirm-again gs s n b e =
+confirm-again gs s n b e l =
     let w : ConfirmShape s n = confirm-shape gs s n e in
-    let l : length s ≡ 40 = w .total in
     let i : length (take 32 (drop 8 s)) ≡ 32 = length-part s 8 32 (omega arith) in
     let z = body-whole s 0 32 b (w .head .algorithm) l in
     rw (eq-eqb (length (take 32 (drop 8 s))) 32 i) (ap Octets (rw (w .sequence, w .status, w .counter) at z))
+
+-- "The writer still writes 40": of any status 0 Confirm the first 40 octets
+pub confirm-first : (gs s : List ℕ) (n : ℕ) → Bytes s → readBody gs s ≡ Confirm n → drawConfirm n (valueOf s) ≡ Octets (take 40 s)
+confirm-first gs s n b e =
+    let w = trailing gs s n e in
+    ap (drawConfirm n) (sym (w .value)) ∙ confirm-again gs (take 40 s) n (bytes-take 40 s b) (w .first gs) (length-take-le 40 s (confirm-shape gs s n e .total))

@@ -6,7 +6,7 @@ use mathlib.Core.List.{List, [], _∷_}
 use Prim.Native.Nat.{ℕ, _+_, _-_, _≤_, _<_}
 use native.Mathlib.Omega.{arith}
 use lib.Dec.{eqb, ltb}
-use lib.ListN.{length, take, drop, length-drop}
+use lib.ListN.{length, take, drop}
 use borrow.Author.Tests.{ltb-false, eqb-true, eqb-false}
 use Rattle.octets.specs.Octets.{part, num, Bytes}
 use Rattle.octets.proofs.Laws.{bytes-drop}
@@ -14,7 +14,7 @@ use Rattle.octets.specs.Scan.{if_then_else_}
 use Rattle.groups.specs.Groups.{commitLength, listed}
 use Rattle.frame.specs.declared.Body.{Body}
 use Rattle.frame.specs.declared.Body.the-variants.{Commit, Unsupported, TokenRequest, GroupRefusal, OtherCommit, Confirm, OtherConfirm, Malformed}
-use Rattle.frame.specs.Frame.{field, algorithmOf, sequenceOf, statusOf, groupOf, counterOf, readListed, readOffer, readTokenRequest, readGroupRefusal, readCommit, confirmEnds, readConfirm, readBody}
+use Rattle.frame.specs.Frame.{field, algorithmOf, sequenceOf, statusOf, groupOf, counterOf, readListed, readOffer, readTokenRequest, readGroupRefusal, readCommit, wholeElements, elementsOf, readConfirm, readBody}
 
 -- ---- which branch an answer came from
 
@@ -107,8 +107,8 @@ commit-code gs s = go (eqb (statusOf s) 0) (eqb (statusOf s) 76) (eqb (statusOf 
     go false false true n x y z h k (inr e) = inr e
     go false false false n x y z h k l = inl (omega arith)
 
-value-code : (s : List ℕ) (n : ℕ) → (code (if ltb (length s) 40 then Malformed else if confirmEnds (drop 40 s) then Confirm n else Malformed) ≡ 5) ⊎ (code (if ltb (length s) 40 then Malformed else if confirmEnds (drop 40 s) then Confirm n else Malformed) ≡ 7)
-value-code s n = go (ltb (length s) 40) (confirmEnds (drop 40 s))
+value-code : (s : List ℕ) (n : ℕ) → (code (if ltb (length s) 40 then Malformed else if wholeElements (elementsOf s) then Confirm n else Malformed) ≡ 5) ⊎ (code (if ltb (length s) 40 then Malformed else if wholeElements (elementsOf s) then Confirm n else Malformed) ≡ 7)
+value-code s n = go (ltb (length s) 40) (wholeElements (elementsOf s))
   where
     go : (a b : Bool) → (code (if a then Malformed else if b then Confirm n else Malformed) ≡ 5) ⊎ (code (if a then Malformed else if b then Confirm n else Malformed) ≡ 7)
     go true b = inr refl
@@ -313,18 +313,17 @@ pub record ConfirmShape (s : List ℕ) (n : ℕ) : Type 0 where
   pub sequence : sequenceOf s ≡ 2
   pub status : statusOf s ≡ 0
   pub counter : counterOf s ≡ n
-  pub total : length s ≡ 40
+  pub total : 40 ≤ length s
+  pub elements : wholeElements (elementsOf s) ≡ true
 
 pub confirm-shape : (gs s : List ℕ) (n : ℕ) → readBody gs s ≡ Confirm n → ConfirmShape s n
-unfolding readConfirm confirmEnds
+unfolding readConfirm
 confirm-shape gs s n e =
     let w = as-confirm gs s (Confirm n) e (omega arith) (omega arith) in
     let a = if-then (eqb (statusOf s) 0) _ (OtherConfirm (statusOf s)) (Confirm n) (w .2) (λ q. omega (arith, ap code q)) in
     let b = if-else (ltb (length s) 40) Malformed _ (Confirm n) (a .1) (λ q. omega (arith, ap code q)) in
-    let c = if-then (eqb (length (drop 40 s)) 0) (Confirm (counterOf s)) Malformed (Confirm n) (b .1) (λ q. omega (arith, ap code q)) in
-    let h : 40 ≤ length s = ltb-false _ _ (b .0) in
-    let l : length (drop 40 s) ≡ 0 = eqb-true _ _ (c .0) in
-    record { head = w .0; sequence = w .1; status = eqb-true _ _ (a .0); counter = same (c .1); total = omega (arith, length-drop 40 s) }
+    let c = if-then (wholeElements (elementsOf s)) (Confirm (counterOf s)) Malformed (Confirm n) (b .1) (λ q. omega (arith, ap code q)) in
+    record { head = w .0; sequence = w .1; status = eqb-true _ _ (a .0); counter = same (c .1); total = ltb-false _ _ (b .0); elements = c .0 }
   where
     same : Confirm (counterOf s) ≡ Confirm n → counterOf s ≡ n
     same q = cc
@@ -347,5 +346,5 @@ other-confirm-shape gs s x e =
     same : OtherConfirm (statusOf s) ≡ OtherConfirm x → statusOf s ≡ x
     same q = cc
 
-    no : (if ltb (length s) 40 then Malformed else if confirmEnds (drop 40 s) then Confirm (counterOf s) else Malformed) ≡ OtherConfirm x → ⊥
+    no : (if ltb (length s) 40 then Malformed else if wholeElements (elementsOf s) then Confirm (counterOf s) else Malformed) ≡ OtherConfirm x → ⊥
     no q = ⊎-elim (λ k. omega (arith, ap code q)) (λ k. omega (arith, ap code q)) (value-code s (counterOf s))

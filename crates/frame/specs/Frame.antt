@@ -1,12 +1,13 @@
 -- 'Frame bodies': the shapes of Authentication frame bodies, as a reader takes them apart and as a writer makes them.
 use mathlib.Core.Bool.{Bool, true, false}
-use mathlib.Core.List.{List, [], _++_}
-use Prim.Native.Nat.{ℕ, _+_, _-_}
+use mathlib.Core.List.{List, [], _∷_, _++_}
+use Prim.Native.Nat.{ℕ, zero, suc, _+_, _-_}
 use lib.Dec.{eqb, ltb}
 use lib.ListN.{length, drop}
 use Rattle.octets.specs.Octets.{part, num, oct}
 use Rattle.octets.specs.Scan.{if_then_else_}
 use Rattle.groups.specs.Groups.{scalarLength, elementLength, commitLength, listed}
+use Rattle.frame.specs.declared.Field.{Field}
 use Rattle.frame.specs.declared.Head.{Head}
 use Rattle.frame.specs.declared.Body.{Body}
 use Rattle.frame.specs.declared.Body.the-variants.{Commit, Unsupported, TokenRequest, GroupRefusal, OtherCommit, Confirm, OtherConfirm, Malformed}
@@ -14,6 +15,10 @@ use Rattle.frame.specs.declared.Body.the-variants.{Commit, Unsupported, 
 -- a field of two octets
 abbrev pub field : List ℕ → ℕ → ℕ
 field s at = num (part s at 2)
+
+-- "A frame reader carries the received octets and the offset reached": a field, and the offset behind it
+abbrev pub fieldAt : List ℕ → ℕ → Field
+fieldAt s at = record { number = field s at; reached = at + 2 }
 
 -- "Algorithm (2 octets, 3), sequence (2; 1 Commit, 2 Confirm), status (2), then:" group or counter (2)
 abbrev pub algorithmOf : List ℕ → ℕ
@@ -25,9 +30,9 @@ sequenceOf s = field s 2
 abbrev pub statusOf : List ℕ → ℕ
 statusOf s = field s 4
 
--- the three numbers that every body starts with
+-- the three numbers that every body starts with, and the offset behind them
 abbrev pub headOf : List ℕ → Head
-headOf s = record { algorithm = algorithmOf s; sequence = sequenceOf s; status = statusOf s }
+headOf s = record { algorithm = algorithmOf s; sequence = sequenceOf s; status = statusOf s; reached = 6 }
 
 abbrev pub groupOf : List ℕ → ℕ
 groupOf s = field s 6
@@ -68,20 +73,34 @@ readCommit groups s =
     else if eqb (statusOf s) 77 then readGroupRefusal s
     else OtherCommit (statusOf s)
 
--- what may follow a Confirm's 40 octets: nothing
-unfoldable pub confirmEnds : List ℕ → Bool
-confirmEnds rest = eqb (length rest) 0
+-- What may follow a Confirm's 40 octets: "identifier octet, length octet, contents, repeated to the end". Here n octets of contents come first; a part that
+-- ends within them, or behind an identifier, is cut.
+unfoldable pub wholeAfter : ℕ → List ℕ → Bool
+wholeAfter zero [] = true
+wholeAfter (suc n) [] = false
+wholeAfter (suc n) (octet ∷ rest) = wholeAfter n rest
+wholeAfter zero (identifier ∷ []) = false
+wholeAfter zero (identifier ∷ size ∷ rest) = wholeAfter size rest
 
--- "Confirm, status 0: counter (2), value (32), total 40." "A Confirm with nonzero status: the rest is not looked at."
+-- "any run of whole elements"
+unfoldable pub wholeElements : List ℕ → Bool
+wholeElements s = wholeAfter 0 s
+
+-- what follows a Confirm's 40 octets: "hands the trailing part back"
+unfoldable pub elementsOf : List ℕ → List ℕ
+elementsOf s = drop 40 s
+
+-- "Confirm, status 0: counter (2), value (32), total 40." "The reading of such a Confirm now takes 40 octets and any run of whole elements. A cut element is
+-- refused as 7." "A Confirm with nonzero status: the rest is not looked at."
 unfoldable pub readConfirm : List ℕ → Body
 readConfirm s =
     if eqb (statusOf s) 0 then
     (if ltb (length s) 40 then Malformed
-    else if confirmEnds (drop 40 s) then Confirm (counterOf s)
+    else if wholeElements (elementsOf s) then Confirm (counterOf s)
     else Malformed)
     else OtherConfirm (statusOf s)
 
--- "A body is 6 to 2,304 octets." Anything not of these shapes is malformed.
+-- "A body is 6 to 2,304 octets", a Confirm with elements too: "2,304 octets in all at most". Anything not of these shapes is malformed.
 unfoldable pub readBody : List ℕ → List ℕ → Body
 readBody groups s =
     if ltb (length s) 6 then Malformed

@@ -1,3 +1,4 @@
 -- What the contracts of `frame` cite.
 pub mod Frame
+pub mod Elements
 pub mod Writing

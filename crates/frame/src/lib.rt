@@ -1,10 +1,10 @@
 // Authentication frame bodies: the reader, the parts of a body that was read, and the writers.
 ghost use mathlib.Core.Path.{_≡_};
 ghost use Prim.Native.Nat.{_+_, _-_, _≤_};
-ghost use lib.ListN.{length};
+ghost use lib.ListN.{length, drop};
 ghost use Rattle.groups.specs.Groups.{stored};
 ghost use Rattle.octets.specs.Octets.{part, put, num, oct};
-ghost use Rattle.frame.specs.Frame.{readBody, readCommit, readOffer, readListed, readTokenRequest, readGroupRefusal, readConfirm, tokenOf, commitOf, body, head, headOf};
+ghost use Rattle.frame.specs.Frame.{readBody, readCommit, readOffer, readListed, readTokenRequest, readGroupRefusal, readConfirm, wholeElements, elementsOf, tokenOf, commitOf, body, head, fieldAt, headOf};
 ghost use Rattle.frame.specs.Writing.{Writes, Octets, drawCommit, drawTokenRequest, drawGroupRefusal, drawConfirm, drawCommits, drawConfirms, partsBody};
 use groups::COMMIT;
 
@@ -21,7 +21,7 @@ const TOKEN_REQUIRED: u16 = 76;
 
 const GROUP_REFUSED: u16 = 77;
 
-// The length of a body, the place after group or counter, the longest token, a Confirm's value and length.
+// The length of a body, the place after group or counter, the longest token, a Confirm's value and length, an element's identifier and length.
 const SHORTEST: usize = 6;
 
 const LONGEST: usize = 2304;
@@ -33,6 +33,8 @@ const TOKEN: usize = 256;
 const VALUE: usize = 32;
 
 const CONFIRM: usize = 40;
+
+const ELEMENT: usize = 2;
 
 // What a body is, with the numbers in it and the length of its token.
 pub enum Body {
@@ -46,7 +48,7 @@ pub enum Body {
     GroupRefusal { group: u16 },
     // Commit of another status.
     OtherCommit { status: u16 },
-    // Status 0: the value stands at 8.
+    // Status 0: the value stands at 8, and from 40 on what follows, nothing or whole elements.
     Confirm { counter: u16 },
     // Confirm of nonzero status.
     OtherConfirm { status: u16 },
@@ -67,11 +69,18 @@ pub struct Reader<'a> {
     pub at: usize,
 }
 
-// The three numbers that every body starts with.
+// A field of two octets, and the offset reached behind it.
+pub struct Field {
+    pub number: u16,
+    pub reached: usize,
+}
+
+// The three numbers that every body starts with, and the offset reached behind them.
 pub struct Head {
     pub algorithm: u16,
     pub sequence: u16,
     pub status: u16,
+    pub reached: usize,
 }
 
 // The n octets of a slice from an offset, as the caller's own.
@@ -83,11 +92,11 @@ fn part_of<'a>(s: &'a [u8], at: usize, n: usize) -> &'a [u8]
     &s[at..end]
 }
 
-// A reader at the start of a frame.
-pub fn begin<'a>(frame: &'a [u8]) -> Reader<'a>
-    ensures { λ r. ⌜ (r .frame ≡ frame .entry) × (r .at ≡ 0) ⌝ }
+// The reader of a frame at the offset reached.
+pub fn reader_at<'a>(frame: &'a [u8], at: usize) -> Reader<'a>
+    ensures { λ r. ⌜ (r .frame ≡ frame .entry) × (r .at ≡ at) ⌝ }
 {
-    Reader { frame, at: 0 }
+    Reader { frame, at }
 }
 
 // The field of two octets at the offset reached.
@@ -115,37 +124,50 @@ fn taken<'a>(r: Reader<'a>, n: usize) -> &'a [u8]
     part_of(r.frame, r.at, n)
 }
 
+// A field is read, and the reader moves on behind it.
+fn field_at(frame: &[u8], at: usize) -> Field
+    requires { ⌜ at + 2 ≤ length (now frame) ⌝ }
+    ensures { λ f. ⌜ f ≡ fieldAt (now (frame .entry)) at ⌝ }
+{
+    let r = reader_at(frame, at);
+    let n = take16(r);
+    let q = moved(r, 2);
+    Field {
+        number: n,
+        reached: q.at,
+    }
+}
+
+// The part of n octets from the offset reached.
+fn part_at(frame: &[u8], at: usize, n: usize) -> &[u8]
+    requires { ⌜ at + n ≤ length (now frame) ⌝ }
+    ensures { λ s. ⌜ now s ≡ part (now (frame .entry)) at n ⌝ }
+{
+    taken(reader_at(frame, at), n)
+}
+
 // Algorithm, sequence and status, one after another.
 fn head_of(frame: &[u8]) -> Head
     requires { ⌜ 6 ≤ length (now frame) ⌝ }
     ensures { λ h. ⌜ h ≡ headOf (now (frame .entry)) ⌝ }
 {
-    let r = begin(frame);
-    let a = take16(r);
-    let r1 = moved(r, 2);
-    let b = take16(r1);
-    let r2 = moved(r1, 2);
-    let c = take16(r2);
+    let algorithm = field_at(frame, 0);
+    let sequence = field_at(frame, algorithm.reached);
+    let status = field_at(frame, sequence.reached);
     Head {
-        algorithm: a,
-        sequence: b,
-        status: c,
+        algorithm: algorithm.number,
+        sequence: sequence.number,
+        status: status.number,
+        reached: status.reached,
     }
 }
 
-// The token of n octets that stands at an offset.
-fn token(frame: &[u8], at: usize, n: usize) -> &[u8]
-    requires { ⌜ at + n ≤ length (now frame) ⌝ }
-    ensures { λ s. ⌜ now s ≡ part (now (frame .entry)) at n ⌝ }
-{
-    taken(moved(begin(frame), at), n)
-}
-
-// "The token is what the length leaves over", 0 to 256 octets.
-fn read_listed(group: u16, frame: &[u8]) -> Body
+// "The token is what the length leaves over", 0 to 256 octets; it begins at the offset reached behind the group.
+fn read_listed(group: u16, frame: &[u8], at: usize) -> Body
+    requires { ⌜ at ≡ 8 ⌝ }
     ensures { λ r. ⌜ r ≡ readListed group (now (frame .entry)) ⌝ }
 {
-    let least = HEAD + groups::commit_length(group);
+    let least = at + groups::commit_length(group);
     let n = frame.len();
     if n < least {
         return Body::Malformed;
@@ -157,22 +179,25 @@ fn read_listed(group: u16, frame: &[u8]) -> Body
     Body::Commit { group, token }
 }
 
-// "Supported means listed in the table"; a status 0 Commit in any other group needs 8 octets or more.
-fn read_offer(groups: &[u16], frame: &[u8]) -> Body
+// "Supported means listed in the table"; a status 0 Commit in any other group needs 8 octets or more. The group stands at the offset reached.
+fn read_offer(groups: &[u16], frame: &[u8], at: usize) -> Body
+    requires { ⌜ at ≡ 6 ⌝ }
     ensures { λ r. ⌜ r ≡ readOffer (now (groups .entry)) (now (frame .entry)) ⌝ }
 {
     if frame.len() < HEAD {
         return Body::Malformed;
     }
-    let group = octets::get16(frame, 6);
+    let f = field_at(frame, at);
+    let group = f.number;
     if groups::is_listed(groups, group) {
-        return read_listed(group, frame);
+        return read_listed(group, frame, f.reached);
     }
     Body::Unsupported { group }
 }
 
-// "Status 76: group, token of 1 to 256."
-fn read_token_request(frame: &[u8]) -> Body
+// "Status 76: group, token of 1 to 256." The group stands at the offset reached, the token behind it.
+fn read_token_request(frame: &[u8], at: usize) -> Body
+    requires { ⌜ at ≡ 6 ⌝ }
     ensures { λ r. ⌜ r ≡ readTokenRequest (now (frame .entry)) ⌝ }
 {
     let n = frame.len();
@@ -182,56 +207,82 @@ fn read_token_request(frame: &[u8]) -> Body
     if HEAD + TOKEN < n {
         return Body::Malformed;
     }
-    let group = octets::get16(frame, 6);
-    let token = n - HEAD;
+    let f = field_at(frame, at);
+    let group = f.number;
+    let token = n - f.reached;
     Body::TokenRequest { group, token }
 }
 
-// "Status 77: group only, total 8."
-fn read_group_refusal(frame: &[u8]) -> Body
+// "Status 77: group only, total 8." The group stands at the offset reached.
+fn read_group_refusal(frame: &[u8], at: usize) -> Body
+    requires { ⌜ at ≡ 6 ⌝ }
     ensures { λ r. ⌜ r ≡ readGroupRefusal (now (frame .entry)) ⌝ }
 {
     if frame.len() != HEAD {
         return Body::Malformed;
     }
-    let group = octets::get16(frame, 6);
+    let f = field_at(frame, at);
+    let group = f.number;
     Body::GroupRefusal { group }
 }
 
-// A Commit by its status; of any other status the rest is not looked at.
-fn read_commit(groups: &[u16], frame: &[u8]) -> Body
-    requires { ⌜ 6 ≤ length (now frame) ⌝ }
+// A Commit by its status, from the offset reached behind it; of any other status the rest is not looked at.
+fn read_commit(groups: &[u16], frame: &[u8], head: Head) -> Body
+    requires { ⌜ head ≡ headOf (now frame) ⌝ }
     ensures { λ r. ⌜ r ≡ readCommit (now (groups .entry)) (now (frame .entry)) ⌝ }
 {
-    let status = octets::get16(frame, 4);
+    let status = head.status;
+    let at = head.reached;
     if status == SUCCESS {
-        return read_offer(groups, frame);
+        return read_offer(groups, frame, at);
     }
     if status == TOKEN_REQUIRED {
-        return read_token_request(frame);
+        return read_token_request(frame, at);
     }
     if status == GROUP_REFUSED {
-        return read_group_refusal(frame);
+        return read_group_refusal(frame, at);
     }
     Body::OtherCommit { status }
 }
 
-// "Confirm, status 0: counter (2), value (32), total 40"; of nonzero status the rest is not looked at.
-fn read_confirm(frame: &[u8]) -> Body
-    requires { ⌜ 6 ≤ length (now frame) ⌝ }
+// From the offset reached to the frame's end stand whole elements and nothing else: identifier, length, contents, one element a step.
+fn is_whole(frame: &[u8], at: usize) -> bool
+    requires { ⌜ at ≤ length (now frame) ⌝ }
+    ensures { λ r. ⌜ r ≡ wholeElements (drop at (now (frame .entry))) ⌝ }
+{
+    let mut reached = at;
+    while reached < frame.len() {
+        let left = frame.len() - reached;
+        if left < ELEMENT {
+            return false;
+        }
+        let size = octets::get8(frame, reached + 1) as usize;
+        if left - ELEMENT < size {
+            return false;
+        }
+        reached = reached + ELEMENT + size;
+    }
+    true
+}
+
+// "Confirm, status 0: counter (2), value (32), total 40", then whole elements; of nonzero status the rest is not looked at.
+fn read_confirm(frame: &[u8], head: Head) -> Body
+    requires { ⌜ head ≡ headOf (now frame) ⌝ }
     ensures { λ r. ⌜ r ≡ readConfirm (now (frame .entry)) ⌝ }
 {
-    let status = octets::get16(frame, 4);
+    let status = head.status;
     if status != SUCCESS {
         return Body::OtherConfirm { status };
     }
     if frame.len() < CONFIRM {
         return Body::Malformed;
     }
-    if CONFIRM < frame.len() {
+    let f = field_at(frame, head.reached);
+    let counter = f.number;
+    let whole = is_whole(frame, f.reached + VALUE);
+    if !whole {
         return Body::Malformed;
     }
-    let counter = octets::get16(frame, 6);
     Body::Confirm { counter }
 }
 
@@ -252,10 +303,10 @@ pub fn read(groups: &[u16], frame: &[u8]) -> Body
         return Body::Malformed;
     }
     if sequence == COMMITS {
-        return read_commit(groups, frame);
+        return read_commit(groups, frame, head);
     }
     if sequence == CONFIRMS {
-        return read_confirm(frame);
+        return read_confirm(frame, head);
     }
     Body::Malformed
 }
@@ -271,7 +322,18 @@ pub fn token_of(frame: &[u8], n: usize) -> &[u8]
     if all - HEAD < n {
         return &frame[HEAD..all];
     }
-    token(frame, HEAD, n)
+    part_at(frame, HEAD, n)
+}
+
+// "Hands the trailing part back": the caller's own octets from 40 on, as many as there are.
+pub fn elements_of(frame: &[u8]) -> &[u8]
+    ensures { λ r. ⌜ now r ≡ elementsOf (now (frame .entry)) ⌝ }
+{
+    let all = frame.len();
+    if all < CONFIRM {
+        return &frame[all..all];
+    }
+    part_at(frame, CONFIRM, all - CONFIRM)
 }
 
 // The stored form of a Commit's scalar and element, as many of their octets as there are.

@@ -11,9 +11,9 @@ use Rattle.groups.proofs.Laws.{drop-zeros}
 use Rattle.frame.specs.Frame.{readBody, tokenOf}
 use Rattle.frame.specs.declared.Body.{Body}
 use Rattle.frame.specs.declared.Body.the-variants as body
-use Rattle.frame.proofs.Shapes.{commit-shape, token-request-shape}
+use Rattle.frame.proofs.Shapes.{headed, commit-shape, token-request-shape}
 use Rattle.message.specs.declared.View.{View}
-use Rattle.message.specs.View.{viewOf, view, storedToken}
+use Rattle.message.specs.View.{viewOf, view, storedToken, commitIn, message}
 
 -- the shape that a body is of
 pub view-law : (B y : Body) (r : View) → B ≡ y → r ≡ viewOf y → r ≡ viewOf B
@@ -40,6 +40,21 @@ view-read gs frame x r e q = (q ∙ ap viewOf e, subst (λ (v : View). v .toklen
 pub view-short : (gs frame : List ℕ) → view gs frame .toklen ≤ 256
 unfolding view
 view-short gs frame = read-token gs frame (readBody gs frame) refl
+
+-- a body that was read is at most 2,304 octets
+pub view-long : (gs frame : List ℕ) → (view gs frame .sequence ≡ 0 → ⊥) → length frame ≤ 2304
+unfolding view
+view-long gs frame h = headed gs frame (readBody gs frame) refl (λ e. h (ap (λ (x : Body). viewOf x .sequence) (sym e))) .0 .longest
+
+-- of a status 0 Confirm the rules see its counter and nothing else
+module _ (gs s u : List ℕ) (n : ℕ) (e : readBody gs s ≡ body.Confirm n) (f : readBody gs u ≡ body.Confirm n) where
+  pub confirm-view : view gs s ≡ view gs u
+  unfolding view
+  confirm-view = rw (e, f)
+
+  pub confirm-message : message gs s ≡ message gs u
+  unfolding message view tokenOf part commitIn
+  confirm-message = rw (e, f)
 
 -- [0; 256] filled with a token
 pub token-law : (token r : List ℕ) → r ≡ put (replicate 256 0) 0 token → r ≡ storedToken token

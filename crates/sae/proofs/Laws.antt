@@ -5,7 +5,7 @@ use mathlib.Core.List.{List, [], _∷_, _++_, append-nil, map}
 use Prim.Native.Nat.{ℕ, _+_, _≤_}
 use native.Mathlib.Omega.{arith}
 use lib.Dec.{eqb}
-use lib.ListN.{length, replicate, take, length-append}
+use lib.ListN.{length, replicate, take, length-append, length-drop}
 use borrow.Author.Tests.{eq-eqb, ne-eqb, not-true, not-false}
 use Rattle.octets.specs.Octets.{put, part, num, oct}
 use Rattle.octets.specs.Scan.{if_then_else_}
@@ -24,7 +24,8 @@ use Rattle.groups.specs.Groups.{width, commitLength}
 use Rattle.groups.proofs.Laws.{commit-fits}
 use Rattle.message.specs.declared.View.{View}
 use Rattle.message.specs.View.{view}
-use Rattle.frame.specs.Frame.{commitBody, tokenRequestBody, groupRefusalBody, confirmBody}
+use Rattle.message.proofs.Laws.{view-long}
+use Rattle.frame.specs.Frame.{elementsOf, commitBody, tokenRequestBody, groupRefusalBody, confirmBody}
 use Rattle.frame.specs.Writing.{Drawn, Octets, Outside, drawCommit, drawTokenRequest, drawGroupRefusal, drawConfirm, drawCommits, drawConfirms, partsBody}
 use Rattle.frame.proofs.Laws.{length-body}
 use Rattle.frame.proofs.Wrote.{CommitParts, commit-parts, TokenRequestParts, token-request-parts, group-refusal-parts, ConfirmParts, confirm-parts}
@@ -42,7 +43,7 @@ use Rattle.writer.specs.Writer.{LeftOut, LeavesOut, writesParts, recordCommit, 
 use Rattle.writer.proofs.Theorems.{Draws, outside, short, whole, FromParts, malformed, made, FromRecord, unsound, unusable, absent, drawn, parts-one, record-one}
 use Rattle.lookups.specs.declared.Asked.{Asked}
 use Rattle.lookups.specs.Lookups.{askedReturned}
-use Rattle.sae.specs.Interface.{noneDueFlag, frameOctets, framedOctets, framesOctets, answerOctets, isRefused, answerLeft, Returns, hasToken, tokenAt, hasValue, restAt, partsOctets, readNumber, readParts, Reads, wroteNumber, writtenLeft, Counted, Writes, askedLeft, Asks}
+use Rattle.sae.specs.Interface.{noneDueFlag, frameOctets, framedOctets, framesOctets, answerOctets, isRefused, answerLeft, Returns, hasToken, hasValue, handedAt, handedLength, restAt, partsOctets, readNumber, readParts, Reads, wroteNumber, writtenLeft, Counted, Writes, askedLeft, Asks}
 
 -- ---- octets, one store for each field
 
@@ -138,13 +139,33 @@ module _ (t own s : List ℕ) (b : Bool) (p : b ≡ reservedZero s) where
 
 -- ---- the parts of a frame
 
-pub token-by : (v : View) (b : Bool) → b ≡ hasToken v → b ≡ true → 8 ≡ tokenAt v
-unfolding tokenAt
-token-by v b p q = let z : hasToken v ≡ true = sym p ∙ q in rw z
+module _ (v : View) (b : Bool) (p : b ≡ hasToken v) where
+  pub handed-token : b ≡ true → 8 ≡ handedAt v
+  unfolding handedAt
+  handed-token q = let z : hasToken v ≡ true = sym p ∙ q in rw z
 
-pub token-not : (v : View) (b : Bool) → b ≡ hasToken v → b ≡ false → 0 ≡ tokenAt v
-unfolding tokenAt
-token-not v b p q = let z : hasToken v ≡ false = sym p ∙ q in rw z
+  module _ (l : b ≡ false) (c : Bool) (k : c ≡ hasValue v) where
+    pub handed-behind : c ≡ true → 40 ≡ handedAt v
+    unfolding handedAt
+    handed-behind q = let y : hasToken v ≡ false = sym p ∙ l in let z : hasValue v ≡ true = sym k ∙ q in rw (y, z)
+
+    pub handed-not : c ≡ false → 0 ≡ handedAt v
+    unfolding handedAt
+    handed-not q = let y : hasToken v ≡ false = sym p ∙ l in let z : hasValue v ≡ false = sym k ∙ q in rw (y, z)
+
+module _ (v : View) (s : List ℕ) (b : Bool) (p : b ≡ hasValue v) where
+  pub length-behind : (r : List ℕ) → b ≡ true → r ≡ elementsOf s → length r ≡ handedLength v s
+  unfolding handedLength
+  length-behind r q e = let z : hasValue v ≡ true = sym p ∙ q in rw z (ap length e)
+
+  pub length-token : b ≡ false → v .toklen ≡ handedLength v s
+  unfolding handedLength
+  length-token q = let z : hasValue v ≡ false = sym p ∙ q in rw z
+
+-- what follows is no longer than the frame
+pub behind-short : (s r : List ℕ) → length s ≤ 2304 → r ≡ elementsOf s → length r ≤ 2304
+unfolding elementsOf
+behind-short s r h e = rw e (omega (arith, length-drop 40 s))
 
 pub rest-scalar : (v : View) → v .listed ≡ true → 8 + v .toklen ≡ restAt v
 unfolding restAt
@@ -168,12 +189,12 @@ laid q x g n i l k z a b c d e f h hz ea eb ec ed ee ef eh =
     cc (length-oct 2 q, length-oct 2 x, length-oct 2 g, length-oct 2 n, length-oct 4 i, length-oct 4 l, length-oct 4 k) in
     s ∙ lay-all (2 ∷ 2 ∷ 2 ∷ 2 ∷ 4 ∷ 4 ∷ 4 ∷ []) (oct 2 q ∷ oct 2 x ∷ oct 2 g ∷ oct 2 n ∷ oct 4 i ∷ oct 4 l ∷ oct 4 k ∷ []) z w hz ∙ simp append-nil
 
-pub parts-laid : (v : View) (at rest : ℕ) (z a b c d e f h : List ℕ) → at ≡ tokenAt v → rest ≡ restAt v → length z ≡ 20 → a ≡ put z 0 (oct 2 (v .sequence))
-    → b ≡ put a 2 (oct 2 (v .status)) → c ≡ put b 4 (oct 2 (v .group)) → d ≡ put c 6 (oct 2 (v .counter)) → e ≡ put d 8 (oct 4 at)
-    → f ≡ put e 12 (oct 4 (v .toklen)) → h ≡ put f 16 (oct 4 rest) → h ≡ partsOctets v
+pub parts-laid : (v : View) (s : List ℕ) (at long rest : ℕ) (z a b c d e f h : List ℕ) → at ≡ handedAt v → long ≡ handedLength v s → rest ≡ restAt v → length z ≡ 20
+    → a ≡ put z 0 (oct 2 (v .sequence)) → b ≡ put a 2 (oct 2 (v .status)) → c ≡ put b 4 (oct 2 (v .group)) → d ≡ put c 6 (oct 2 (v .counter)) → e ≡ put d 8 (oct 4 at)
+    → f ≡ put e 12 (oct 4 long) → h ≡ put f 16 (oct 4 rest) → h ≡ partsOctets v s
 unfolding partsOctets
-parts-laid v at rest z a b c d e f h et er hz ea eb ec ed ee ef eh =
-    laid (v .sequence) (v .status) (v .group) (v .counter) at (v .toklen) rest z a b c d e f h hz ea eb ec ed ee ef eh ∙ rw (et, er)
+parts-laid v s at long rest z a b c d e f h et el er hz ea eb ec ed ee ef eh =
+    laid (v .sequence) (v .status) (v .group) (v .counter) at long rest z a b c d e f h hz ea eb ec ed ee ef eh ∙ rw (et, el, er)
 
 -- ---- a body read
 
@@ -186,6 +207,10 @@ module _ (t frame given : List ℕ) (b : Bool) (h : Header) (L : Looked t b h) w
     seen : v ≡ view (groupsOf (decodeTable t .header)) frame
     seen = k ∙ ap (λ (i : Header). view (groupsOf i) frame) (looked-header t b h L q)
 
+    -- a body that was read has at most 2,304 octets
+    pub read-length : (v .sequence ≡ 0 → ⊥) → length frame ≤ 2304
+    read-length d = view-long (groupsOf h) frame (λ e. d (ap (λ (x : View). x .sequence) k ∙ e))
+
     pub read-malformed : v .sequence ≡ 0 → Reads 7 given given t frame
     unfolding readNumber readParts
     read-malformed e =
@@ -194,7 +219,7 @@ module _ (t frame given : List ℕ) (b : Bool) (h : Header) (L : Looked t b h) w
         let y : v ≡ view (groupsOf (decodeTable t .header)) frame = seen in
         record { returns = rw (z, ← y, n); leaves = rw (z, ← y, n) }
 
-    pub read-parts : (parts : List ℕ) → (v .sequence ≡ 0 → ⊥) → parts ≡ partsOctets v → Reads 0 parts given t frame
+    pub read-parts : (parts : List ℕ) → (v .sequence ≡ 0 → ⊥) → parts ≡ partsOctets v frame → Reads 0 parts given t frame
     unfolding readNumber readParts
     read-parts parts d w =
         let z : sound t ≡ true = looked-sound t b h L q in

@@ -111,7 +111,7 @@ unfolding readNumber readParts
 read-refused r parts given t frame e d = go (sound t) (view (groupsOf (decodeTable t .header)) frame .sequence is 0) (e .returns) (e .leaves)
   where
     go : (b m : Bool) → r ≡ (if b then (if m then 7 else 0) else 2)
-        → parts ≡ (if b then (if m then given else partsOctets (view (groupsOf (decodeTable t .header)) frame)) else given) → parts ≡ given
+        → parts ≡ (if b then (if m then given else partsOctets (view (groupsOf (decodeTable t .header)) frame) frame) else given) → parts ≡ given
     go false m n p = p
     go true true n p = p
     go true false n p = absurd (d n)

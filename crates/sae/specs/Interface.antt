@@ -3,9 +3,10 @@ use mathlib.Core.Path.{_≡_}
 use mathlib.Core.Bool.{Bool, true, false, _&&_, _||_}
 use mathlib.Core.List.{List, _++_}
 use Prim.Native.Nat.{ℕ, _+_, _≤_}
-use lib.ListN.{replicate}
+use lib.ListN.{length, replicate}
 use Rattle.octets.specs.Octets.{oct}
 use Rattle.octets.specs.Scan.{if_then_else_}
+use Rattle.frame.specs.Frame.{elementsOf}
 use Rattle.record.specs.Layout.{groupsOf}
 use Rattle.rules.specs.Book.{_is_, eventNumber}
 use Rattle.rules.specs.declared.Frame.{Frame}
@@ -63,27 +64,33 @@ pub record Returns (r : ℕ) (t answer given : List ℕ) (l : Left) : Type 0 whe
   pub leaves : t ≡ l .table
   pub answers : answer ≡ answerLeft (l .answer) given
 
--- ---- parts, 20 octets: 0–1 sequence; 2–3 status; 4–5 group; 6–7 counter; 8–11 offset and 12–15 length of the token; 16–19 offset of the scalar or of a Confirm's value
+-- ---- parts, 20 octets: 0–1 sequence; 2–3 status; 4–5 group; 6–7 counter; 8–11 offset and 12–15 length of the part handed back, the token or what follows a
+-- status 0 Confirm; 16–19 offset of the scalar or of a Confirm's value
 
 -- a supported Commit and a 76 have a token, from octet 8 on
 abbrev pub hasToken : View → Bool
 hasToken v = (v .sequence is 1) && (v .listed || (v .status is 76))
 
-unfoldable pub tokenAt : View → ℕ
-tokenAt v = if hasToken v then 8 else 0
-
 -- a status 0 Confirm has a value, from octet 8 on
 abbrev pub hasValue : View → Bool
 hasValue v = (v .sequence is 2) && (v .status is 0)
+
+-- "hands the trailing part back": from octet 40 on, also where it is empty
+unfoldable pub handedAt : View → ℕ
+handedAt v = if hasToken v then 8 else if hasValue v then 40 else 0
+
+unfoldable pub handedLength : View → List ℕ → ℕ
+handedLength v frame = if hasValue v then length (elementsOf frame) else v .toklen
 
 -- a supported Commit's scalar stands after its token
 unfoldable pub restAt : View → ℕ
 restAt v = if v .listed then 8 + v .toklen else if hasValue v then 8 else 0
 
 -- what is not looked at is 0
-unfoldable pub partsOctets : View → List ℕ
-partsOctets v =
-    oct 2 (v .sequence) ++ (oct 2 (v .status) ++ (oct 2 (v .group) ++ (oct 2 (v .counter) ++ (oct 4 (tokenAt v) ++ (oct 4 (v .toklen) ++ oct 4 (restAt v))))))
+unfoldable pub partsOctets : View → List ℕ → List ℕ
+partsOctets v frame =
+    oct 2 (v .sequence) ++ (oct 2 (v .status) ++ (oct 2 (v .group) ++ (oct 2 (v .counter)
+    ++ (oct 4 (handedAt v) ++ (oct 4 (handedLength v frame) ++ oct 4 (restAt v))))))
 
 -- the reader refuses 2 and 7
 unfoldable pub readNumber : List ℕ → List ℕ → ℕ
@@ -92,7 +99,7 @@ readNumber t frame = if sound t then (if view (groupsOf (decodeTable t .header))
 unfoldable pub readParts : List ℕ → List ℕ → List ℕ → List ℕ
 readParts t frame old =
     let v = view (groupsOf (decodeTable t .header)) frame in
-    if sound t then (if v .sequence is 0 then old else partsOctets v) else old
+    if sound t then (if v .sequence is 0 then old else partsOctets v frame) else old
 
 pub record Reads (r : ℕ) (parts : List ℕ) (given t frame : List ℕ) : Type 0 where
   pub returns : r ≡ readNumber t frame

@@ -1,13 +1,15 @@
-// The C interface: what firmware links. Thin over engine, writer, lookups and message. Every function returns 0 or the number of a refusal, and on a
+// The C interface: what firmware links. Thin over engine, writer, lookups, message and frame. Every function returns 0 or the number of a refusal, and on a
 // refusal leaves every lent octet, the answer and the number asked for too.
 ghost use mathlib.Core.Path.{_≡_};
+ghost use Prim.Native.Nat.{_≤_};
+ghost use lib.ListN.{length};
 ghost use Rattle.record.specs.SettingsOctets.{settingsOf, reservedZero};
 ghost use Rattle.rules.specs.Book.{eventNumber};
 ghost use Rattle.answers.specs.Answers.{Leaves, returned};
 ghost use Rattle.calls.specs.Calls.{initializesFrom, initiates, kills, receives, expires};
 ghost use Rattle.writer.specs.Writer.{writesParts, writesRecord};
 ghost use Rattle.lookups.specs.Lookups.{askedReturned, asksDeadline, asksOffset};
-ghost use Rattle.sae.specs.Interface.{noneDueFlag, frameOctets, framedOctets, framesOctets, answerOctets, isRefused, answerLeft, Returns, hasToken, tokenAt, hasValue, restAt, partsOctets, Reads, wroteNumber, writtenLeft, Counted, Writes, askedLeft, Asks};
+ghost use Rattle.sae.specs.Interface.{noneDueFlag, frameOctets, framedOctets, framesOctets, answerOctets, isRefused, answerLeft, Returns, hasToken, hasValue, handedAt, handedLength, restAt, partsOctets, Reads, wroteNumber, writtenLeft, Counted, Writes, askedLeft, Asks};
 use answers::Answer;
 use answers::Outcome;
 use answers::Refusal;
@@ -282,21 +284,36 @@ fn has_token(v: View) -> bool
     (v.sequence == 1) & (v.listed | (v.status == 76))
 }
 
-// Where the token stands, or 0.
-fn token_at(v: View) -> u32
-    ensures { λ r. ⌜ r ≡ tokenAt v ⌝ }
-{
-    if has_token(v) {
-        return 8;
-    }
-    0
-}
-
 // A status 0 Confirm has a value.
 fn has_value(v: View) -> bool
     ensures { λ r. ⌜ r ≡ hasValue v ⌝ }
 {
     (v.sequence == 2) & (v.status == 0)
+}
+
+// Where the part that is handed back stands: the token, or what follows a status 0 Confirm; or 0.
+fn handed_at(v: View) -> u32
+    ensures { λ r. ⌜ r ≡ handedAt v ⌝ }
+{
+    if has_token(v) {
+        return 8;
+    }
+    if has_value(v) {
+        return 40;
+    }
+    0
+}
+
+// How long that part is.
+fn handed_length(v: View, body: &[u8]) -> u32
+    requires { ⌜ length (now body) ≤ 2304 ⌝ }
+    ensures { λ r. ⌜ r ≡ handedLength v (now (body .entry)) ⌝ }
+{
+    if has_value(v) {
+        let elements = frame::elements_of(body);
+        return elements.len() as u32;
+    }
+    v.toklen as u32
 }
 
 // Where the scalar or the value stands, or 0.
@@ -314,11 +331,12 @@ fn rest_at(v: View) -> u32
 }
 
 // The octets of a frame's parts.
-fn parts_octets(v: View) -> [u8; 20]
-    ensures { λ r. ⌜ r ≡ partsOctets v ⌝ }
+fn parts_octets(v: View, body: &[u8]) -> [u8; 20]
+    requires { ⌜ length (now body) ≤ 2304 ⌝ }
+    ensures { λ r. ⌜ r ≡ partsOctets v (now (body .entry)) ⌝ }
 {
-    let at = token_at(v);
-    let length = v.toklen as u32;
+    let at = handed_at(v);
+    let length = handed_length(v, body);
     let rest = rest_at(v);
     let mut x = [0u8; 20];
     octets::put16(&mut x[..], 0, v.sequence);
@@ -348,7 +366,7 @@ pub extern "C" fn sae_read(t: &[u8], body: &[u8], parts: &mut [u8; 20]) -> u32
     if v.sequence == 0 {
         return 7;
     }
-    *parts = parts_octets(v);
+    *parts = parts_octets(v, body);
     0
 }
 

@@ -272,7 +272,7 @@ tells : Tells
 unfolding octets.part octets.put octets.num octets.oct octets.allZero octets.same octets.sameAddress octets.zeroAddress octets.individual
     octets.higher scan.allBelow scan.countBelow scan.firstBelow scan.lastBelow groups.scalarLength groups.elementLength groups.commitLength
     groups.known groups.stored groups.listed groups.placeFrom groups.place groups.indexOf groups.marked groups.mark groups.firstLeft groups.freshAt
-    groups.freshFor frame.readListed frame.readOffer frame.readTokenRequest frame.readGroupRefusal frame.readCommit frame.confirmEnds
+    groups.freshFor frame.readListed frame.readOffer frame.readTokenRequest frame.readGroupRefusal frame.readCommit frame.wholeAfter frame.wholeElements frame.elementsOf
     frame.readConfirm frame.readBody frame.tokenOf frame.scalarOf frame.elementOf frame.commitOf frame.valueOf frame.head frame.body frame.commitBody
     frame.tokenRequestBody frame.groupRefusalBody frame.confirmBody codec.cut codec.glue codec.total layout.runWidths layout.runFields layout.runOf
     layout.encodeRun layout.decodeRun layout.linkWidths layout.linkFields layout.linkOf layout.encodeLink layout.decodeLink layout.peerWidths

@@ -1,12 +1,13 @@
 -- The round trips of the writer's calls: the parts that a reader hands back are written as the same octets, and what is written reads back as its parts.
-use mathlib.Core.Path.{_≡_, refl, sym, _∙_, subst}
+use mathlib.Core.Path.{_≡_, refl, sym, ap, _∙_, subst}
 use mathlib.Core.Bool.{Bool, true, false}
 use mathlib.Core.List.{List, [], _∷_}
 use mathlib.Core.Logic.{_⊎_, inl, inr}
-use Prim.Native.Nat.{ℕ, _<_}
+use Prim.Native.Nat.{ℕ, _≤_, _<_}
 use native.Mathlib.Omega.{arith}
 use lib.Dec.{eqb, lit<}
-use lib.ListN.{length}
+use lib.ListN.{length, take}
+use lib.Seq.{take-all, length-take-le}
 use borrow.Author.Tests.{lt-ltb, le-ltb, eqb-true}
 use Rattle.octets.specs.Octets.{part, Bytes}
 use Rattle.octets.specs.Scan.{if_then_else_}
@@ -16,8 +17,8 @@ use Rattle.frame.specs.declared.Body.the-variants as body
 use Rattle.frame.specs.declared.Written.{Written}
 use Rattle.frame.specs.declared.Written.the-variants as written-is
 use Rattle.frame.specs.Writing.{Drawn, Octets, Outside, drawConfirm, drawCommits, drawConfirms, partsBody, written, leaves}
-use Rattle.frame.proofs.Shapes.{if-then, if-else}
-use Rattle.frame.proofs.RoundTrip.{commit-again, token-request-again, group-refusal-again, confirm-again}
+use Rattle.frame.proofs.Shapes.{if-then, if-else, confirm-shape}
+use Rattle.frame.proofs.RoundTrip.{commit-again, token-request-again, group-refusal-again, confirm-first}
 use Rattle.frame.proofs.RoundTrip.{commit-reads, commit-token-back, commit-back, token-request-reads, token-request-back}
 use Rattle.frame.proofs.RoundTrip.{group-refusal-reads, confirm-reads, confirm-back}
 use Rattle.frame.proofs.Wrote.{CommitParts, commit-parts, TokenRequestParts, token-request-parts, group-refusal-parts, ConfirmParts, confirm-parts}
@@ -72,9 +73,12 @@ module _ (t s : List ℕ) (k : sound t ≡ true) where
   abbrev list : List ℕ
   list = groupsIn t
 
-  drawn-again : (p : Parts) → partsIn list s ≡ p → drawnFrom list p ≡ Octets s → Again t s
+  drawn-copied : (u : List ℕ) (p : Parts) → partsIn list s ≡ p → drawnFrom list p ≡ Octets u → (out : List ℕ) → Copied u out (writesFrom t (partsIn list s) out)
   unfolding writesParts
-  drawn-again p e d = record { again = λ out. rw (e, k, d) (copied s out) }
+  drawn-copied u p e d out = rw (e, k, d) (copied u out)
+
+  drawn-again : (p : Parts) → partsIn list s ≡ p → drawnFrom list p ≡ Octets s → Again t s
+  drawn-again p e d = record { again = drawn-copied s p e d }
 
   pub commits-again : Bytes s → CommitAgain t s
   commits-again b =
@@ -84,8 +88,27 @@ module _ (t s : List ℕ) (k : sound t ≡ true) where
         group-refusal = λ g e. drawn-again _ (refusal-in list s g e) (parts-refusal-is list [] [] g ∙ group-refusal-again list s g b e);
       }
 
+  -- of any status 0 Confirm the first 40 octets
+  confirm-copied : Bytes s → (n : ℕ) → readBody list s ≡ body.Confirm n → (out : List ℕ) → Copied (take 40 s) out (writesFrom t (partsIn list s) out)
+  confirm-copied b n e = drawn-copied (take 40 s) _ (confirm-in list s n e) (parts-confirm-is list [] _ n ∙ confirm-first list s n b e)
+
+  -- two lengths answered for one buffer are one
+  copied-long : (u v out : List ℕ) (l : LeftOut) → length u ≤ length out → length v ≤ length out → Copied u out l → Copied v out l → length u ≡ length v
+  copied-long u v out l h j c d = same (sym (ap (λ (x : LeftOut). x .answer) (c .whole h)) ∙ ap (λ (x : LeftOut). x .answer) (d .whole j))
+    where
+      same : wrote.Length (length u) ≡ wrote.Length (length v) → length u ≡ length v
+      same q = cc
+
   pub confirms-again : Bytes s → ConfirmAgain t s
-  confirms-again b = record { confirm = λ n e. drawn-again _ (confirm-in list s n e) (parts-confirm-is list [] _ n ∙ confirm-again list s n b e) }
+  confirms-again b =
+      record {
+        first = confirm-copied b;
+        confirm = λ n e l. record { again = λ out. subst (λ (u : List ℕ). Copied u out (writesFrom t (partsIn list s) out)) (take-all 40 s (omega arith)) (confirm-copied b n e out) };
+        only = λ n e a.
+            let l : length (take 40 s) ≡ 40 = length-take-le 40 s (confirm-shape list s n e .total) in
+            let h : 40 ≤ length s = confirm-shape list s n e .total in
+            sym (copied-long (take 40 s) s s _ (omega arith) (omega arith) (confirm-copied b n e s) (a .again s)) ∙ l;
+      }
 
 -- ---- which parts make a frame
 

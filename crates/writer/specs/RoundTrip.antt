@@ -1,4 +1,5 @@
--- "What is written reads back; a status 0 Confirm or supported Commit, once read, is written again as the same octets", of the writer's calls.
+-- "What is written reads back; a status 0 Confirm or supported Commit, once read, is written again as the same octets", of the writer's calls; of Confirms just
+-- those of 40 octets.
 use mathlib.Core.Path.{_≡_}
 use mathlib.Core.Bool.{true, _&&_}
 use mathlib.Core.List.{List, []}
@@ -71,9 +72,11 @@ pub record CommitAgain (t s : List ℕ) : Type 0 where
   pub token-request : (g n : ℕ) → readBody (groupsIn t) s ≡ body.TokenRequest g n → Again t s
   pub group-refusal : (g : ℕ) → readBody (groupsIn t) s ≡ body.GroupRefusal g → Again t s
 
--- a status 0 Confirm
+-- a status 0 Confirm: "The writer still writes 40, so only a 40-octet Confirm is rewritten identically"
 pub record ConfirmAgain (t s : List ℕ) : Type 0 where
-  pub confirm : (n : ℕ) → readBody (groupsIn t) s ≡ body.Confirm n → Again t s
+  pub first : (n : ℕ) → readBody (groupsIn t) s ≡ body.Confirm n → (out : List ℕ) → Copied (take 40 s) out (writesFrom t (partsIn (groupsIn t) s) out)
+  pub confirm : (n : ℕ) → readBody (groupsIn t) s ≡ body.Confirm n → length s ≡ 40 → Again t s
+  pub only : (n : ℕ) → readBody (groupsIn t) s ≡ body.Confirm n → Again t s → length s ≡ 40
 
 -- ---- what is written reads back
 

@@ -25,11 +25,11 @@ part-result-end-2 c = search needs
 returns-2 : tie.Need-returns-2
 returns-2 c = token-rest _ _ (c .before .before .if1 .left) (c .before .if2 .taken)
 
-token-requires : tie.Need-token-requires
-token-requires c κs = search needs
+part-at-requires : tie.Need-part-at-requires
+part-at-requires c κs = search needs
 
 returns-3 : tie.Need-returns-3
-returns-3 c = token-whole _ _ _ (c .token .ensures)
+returns-3 c = token-whole _ _ _ (c .part-at .ensures)
 
 pub token-of-spec : {M : Type 1} → statement M
 token-of-spec =
@@ -42,5 +42,5 @@ token-of-spec =
     part-result-start-2
     part-result-end-2
     returns-2
-    token-requires
+    part-at-requires
     returns-3)

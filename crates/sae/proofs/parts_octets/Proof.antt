@@ -5,11 +5,11 @@ use borrow.Author.Needs.{needs}
 use Rattle.sae.proofs.parts_octets.Statement.{statement}
 use Rattle.sae.proofs.parts_octets.Tie as tie
 
-token-at-requires : tie.Need-token-at-requires
-token-at-requires c κs = search needs
+handed-at-requires : tie.Need-handed-at-requires
+handed-at-requires c κs = search needs
 
-cast-length : tie.Need-cast-length
-cast-length c = search needs
+handed-length-requires : tie.Need-handed-length-requires
+handed-length-requires c κs = search needs
 
 rest-at-requires : tie.Need-rest-at-requires
 rest-at-requires c κs = search needs
@@ -57,14 +57,14 @@ put32-requires-3 : tie.Need-put32-requires-3
 put32-requires-3 c κs = search needs
 
 returns : tie.Need-returns
-returns c = parts-laid (c .before .before .before .before .before .before .before .before .before .before .before .before .before .before .before .before .before .before .before .before .before .before .before .before .args .v) _ _ _ _ _ _ _ _ _ _ (c .before .before .before .before .before .before .before .before .before .before .before .before .before .before .before .before .before .before .before .before .before .before .before .token-at .ensures) (c .before .before .before .before .before .before .before .before .before .before .before .before .before .before .before .before .before .before .before .before .before .rest-at .ensures) refl (c .before .before .before .before .before .before .before .before .before .before .before .before .before .before .before .before .before .before .before .put16 .ensures) (c .before .before .before .before .before .before .before .before .before .before .before .before .before .before .before .before .put162 .ensures) (c .before .before .before .before .before .before .before .before .before .before .before .before .before .put163 .ensures) (c .before .before .before .before .before .before .before .before .before .before .put164 .ensures) (c .before .before .before .before .before .before .before .put32 .ensures) (c .before .before .before .before .put322 .ensures) (c .before .put323 .ensures)
+returns c = parts-laid (c .before .before .before .before .before .before .before .before .before .before .before .before .before .before .before .before .before .before .before .before .before .before .before .before .before .args .v) _ _ _ _ _ _ _ _ _ _ _ _ (c .before .before .before .before .before .before .before .before .before .before .before .before .before .before .before .before .before .before .before .before .before .before .before .handed-at .ensures) (c .before .before .before .before .before .before .before .before .before .before .before .before .before .before .before .before .before .before .before .before .before .before .handed-length .ensures) (c .before .before .before .before .before .before .before .before .before .before .before .before .before .before .before .before .before .before .before .before .before .rest-at .ensures) refl (c .before .before .before .before .before .before .before .before .before .before .before .before .before .before .before .before .before .before .before .put16 .ensures) (c .before .before .before .before .before .before .before .before .before .before .before .before .before .before .before .before .put162 .ensures) (c .before .before .before .before .before .before .before .before .before .before .before .before .before .put163 .ensures) (c .before .before .before .before .before .before .before .before .before .before .put164 .ensures) (c .before .before .before .before .before .before .before .put32 .ensures) (c .before .before .before .before .put322 .ensures) (c .before .put323 .ensures)
 
 pub parts-octets-spec : {M : Type 1} → statement M
 parts-octets-spec =
     tie.close
     (tie.spec
-    token-at-requires
-    cast-length
+    handed-at-requires
+    handed-length-requires
     rest-at-requires
     slice-aggregate-put16
     put16-requires

@@ -1,7 +1,8 @@
 -- `sae::sae_read` meets its contract: each return by its law of Laws.
-use Rattle.sae.proofs.Laws.{read-unsound, read-malformed, read-parts}
+use Rattle.sae.proofs.Laws.{read-unsound, read-length, read-malformed, read-parts}
 use Rattle.table.proofs.Laws.{looked-sound, looked-header}
 use Rattle.writer.proofs.Laws.{share, listed-are}
+use mathlib.Core.List.{[]}
 use borrow.Author.Needs.{needs}
 use Rattle.sae.proofs.sae_read.Statement.{statement}
 use Rattle.sae.proofs.sae_read.Tie as tie
@@ -28,7 +29,7 @@ returns-2 : tie.Need-returns-2
 returns-2 c = read-malformed _ _ _ _ (c .before .before .before .before .before .before .before .before .check .result .header) (c .before .before .before .before .before .before .before .before .check .ensures) (c .before .before .read .result) (c .before .before .before .before .before .before .before .if1 .left) (c .before .before .read .ensures .0) (c .if2 .taken)
 
 parts-octets-requires : tie.Need-parts-octets-requires
-parts-octets-requires c κs = search needs
+parts-octets-requires c κs = read-length _ _ [] _ (c .before .before .before .before .before .before .before .before .check .result .header) (c .before .before .before .before .before .before .before .before .check .ensures) (c .before .before .read .result) (c .before .before .before .before .before .before .before .if1 .left) (c .before .before .read .ensures .0) (c .if2 .left)
 
 returns-3 : tie.Need-returns-3
 returns-3 c = read-parts _ _ _ _ (c .before .before .before .before .before .before .before .before .before .check .result .header) (c .before .before .before .before .before .before .before .before .before .check .ensures) (c .before .before .before .read .result) (c .before .before .before .before .before .before .before .before .if1 .left) (c .before .before .before .read .ensures .0) _ (c .before .if2 .left) (c .parts-octets .ensures)
