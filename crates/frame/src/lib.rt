@@ -93,7 +93,7 @@ fn part_of<'a>(s: &'a [u8], at: usize, n: usize) -> &'a [u8]
 }
 
 // The reader of a frame at the offset reached.
-pub fn reader_at<'a>(frame: &'a [u8], at: usize) -> Reader<'a>
+fn reader_at<'a>(frame: &'a [u8], at: usize) -> Reader<'a>
     ensures { λ r. ⌜ (r .frame ≡ frame .entry) × (r .at ≡ at) ⌝ }
 {
     Reader { frame, at }
