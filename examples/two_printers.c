@@ -6,7 +6,8 @@
  * the last one tells whether both hold the same pair. Exit status: 0 they do, 1 they do not, 2 wrong words, 3 what must not be.
  *
  * A prefers group 20 and lists 19 too. B lists 19 alone and asks every peer for a token, so that a status 77 and a status 76 are seen. A
- * has also been told of a third printer, C, which is switched off; it is taken back by a kill. B starts too in one of two plays.
+ * has also been told of a third printer, C, which is switched off; it is taken back by a kill. B starts too in one of two plays. B's host
+ * puts a vendor's element behind its Confirms, as some access points do: A finds it with sae_read, and its engine does not mind it.
  *
  * The chip is a stand-in: its scalars, elements and Confirm values are numbers that anyone can work out. It is no cryptography. */
 
@@ -115,7 +116,8 @@ static void describe(const struct printer *reader, const uint8_t *octets, size_t
     done(sae_read(reader->table, sizeof reader->table, octets, length, parts), "sae_read");
     uint16_t group = get16(parts + SAE_PARTS_GROUP), tokens = get16(parts + SAE_PARTS_TOKEN_LENGTH);
     if (get16(parts + SAE_PARTS_SEQUENCE) == SAE_CONFIRM)
-        snprintf(words, 64, "a Confirm, counter %u", get16(parts + SAE_PARTS_COUNTER));
+        snprintf(words, 64, "a Confirm, counter %u%s", get16(parts + SAE_PARTS_COUNTER),
+                 get16(parts + SAE_PARTS_ELEMENTS_LENGTH) > 0 ? ", an element behind it" : "");
     else if (get16(parts + SAE_PARTS_STATUS) == SAE_TOKEN_REQUIRED)
         snprintf(words, 64, "a 76 with a token for group %u", group);
     else if (get16(parts + SAE_PARTS_STATUS) == SAE_GROUP_REFUSED)
@@ -307,6 +309,14 @@ static uint32_t write_frame(const struct printer *printer, const uint8_t *addres
     return written;
 }
 
+/* A vendor's element behind a Confirm that was written: identifier, length, contents. The writer writes none; a host may. */
+static uint32_t add_element(uint8_t out[SAE_FRAME_LEN], uint32_t written)
+{
+    static const uint8_t element[] = {221, 3, 'B', 'a', 'k'};
+    memcpy(out + written, element, sizeof element);
+    return written + (uint32_t)sizeof element;
+}
+
 /* Does what an answer says: the used commit is replaced, the event is told, the frames are written and sent in their order. */
 static void serve(struct printer *printer, const uint8_t answer[SAE_ANSWER_LEN], const uint8_t token[SAE_EXPECTED_LEN])
 {
@@ -317,7 +327,10 @@ static void serve(struct printer *printer, const uint8_t answer[SAE_ANSWER_LEN],
         tell(printer, events[answer[SAE_ANSWER_EVENT]], name_of(address));
     for (uint8_t place = 0; place < answer[SAE_ANSWER_COUNT]; place++) {
         uint8_t out[SAE_FRAME_LEN];
-        uint32_t written = write_frame(printer, address, answer + SAE_ANSWER_FRAME(place), token, out);
+        const uint8_t *entry = answer + SAE_ANSWER_FRAME(place);
+        uint32_t written = write_frame(printer, address, entry, token, out);
+        if (printer->name == 'B' && get16(entry + SAE_ENTRY_SEQUENCE) == SAE_CONFIRM)
+            written = add_element(out, written);
         transmit(printer, address, out, written);
     }
 }

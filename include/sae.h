@@ -24,8 +24,8 @@ extern "C" {
 
 /* The version of this interface. The first number rises when a host must be looked at again: a call's arguments, a layout or what a call
  * does has changed. The second rises when calls or names were added. */
-#define SAE_VERSION_MAJOR 1
-#define SAE_VERSION_MINOR 1
+#define SAE_VERSION_MAJOR 2
+#define SAE_VERSION_MINOR 0
 
 /* Lengths, in octets. */
 #define SAE_ADDRESS_LEN 6
@@ -122,6 +122,12 @@ enum sae_refusal {
 #define SAE_PARTS_TOKEN_AT 8      /* 4 octets: offset of the token, 8 in a Commit of a listed group also if the token is empty */
 #define SAE_PARTS_TOKEN_LENGTH 12 /* 4 octets */
 #define SAE_PARTS_REST_AT 16      /* 4 octets: offset of the scalar (the element follows it), or of a Confirm's value */
+
+/* Of a status 0 Confirm octets 8 to 15 say where the whole elements behind its 40 octets stand: each is an identifier octet, a length octet
+ * and so many octets of contents, and the last one ends with the body. The engine looks at nothing in them, and they are no token: the
+ * writers write none. */
+#define SAE_PARTS_ELEMENTS_AT 8      /* 4 octets: 40, also if nothing follows */
+#define SAE_PARTS_ELEMENTS_LENGTH 12 /* 4 octets: 0 to 2,264 */
 
 /* Fresh commits, 144 octets for each listed group in the order of the list: scalar, element, zeros. Made by the chip and never used
  * before. If the answer names a group (SAE_ANSWER_FRESH), that one is used up and never offered again; the others may be. */

@@ -1,13 +1,9 @@
 -- A frame call with a status 0 Confirm equals the frame call with its first 40 octets.
-use mathlib.Core.Path.{_≡_, refl, ap}
-use mathlib.Core.Bool.{not}
+use mathlib.Core.Path.{_≡_, refl}
 use mathlib.Core.List.{List}
 use Prim.Native.Nat.{ℕ}
-use lib.Dec.{eqb, ltb}
-use lib.ListN.{length, take}
-use Rattle.octets.specs.Scan.{if_then_else_}
+use lib.ListN.{take}
 use Rattle.octets.specs.declared.Found.{Found}
-use Rattle.groups.specs.Groups.{freshOk}
 use Rattle.frame.specs.Frame.{readBody}
 use Rattle.frame.specs.declared.Body.the-variants as body
 use Rattle.frame.proofs.Trailing.{trailing}
@@ -17,7 +13,6 @@ use Rattle.table.specs.declared.Entry.{Entry}
 use Rattle.table.specs.declared.Entry.the-variants.{Unsound, Unusable, Absent, At}
 use Rattle.message.specs.View.{view, message}
 use Rattle.message.proofs.Laws.{confirm-view, confirm-message}
-use Rattle.answers.specs.Answers.{Left}
 use Rattle.calls.specs.Calls.{admitFrame, frameTurn, frameStep, receives}
 use Rattle.call_laws.specs.Elements.{FirstAlone}
 

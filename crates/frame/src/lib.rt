@@ -3,7 +3,7 @@ ghost use mathlib.Core.Path.{_≡_};
 ghost use Prim.Native.Nat.{_+_, _-_, _≤_};
 ghost use lib.ListN.{length, drop};
 ghost use Rattle.groups.specs.Groups.{stored};
-ghost use Rattle.octets.specs.Octets.{part, put, num, oct};
+ghost use Rattle.octets.specs.Octets.{part, put, num};
 ghost use Rattle.frame.specs.Frame.{readBody, readCommit, readOffer, readListed, readTokenRequest, readGroupRefusal, readConfirm, wholeElements, elementsOf, tokenOf, commitOf, body, head, fieldAt, headOf};
 ghost use Rattle.frame.specs.Writing.{Writes, Octets, drawCommit, drawTokenRequest, drawGroupRefusal, drawConfirm, drawCommits, drawConfirms, partsBody};
 use groups::COMMIT;

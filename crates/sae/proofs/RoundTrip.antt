@@ -9,7 +9,7 @@ use lib.Dec.{lit<, lit≤}
 use lib.ListN.{length, take, drop, length-drop}
 use lib.Seq.{take-all, length-take-le}
 use borrow.Author.Tests.{ne-eqb}
-use Rattle.octets.specs.Octets.{part, put, num, oct, Bytes}
+use Rattle.octets.specs.Octets.{part, num, oct, Bytes}
 use Rattle.octets.specs.Scan.{if_then_else_}
 use Rattle.octets.proofs.Laws.{num-oct}
 use Rattle.frame.specs.Frame.{field, elementsOf, readBody, tokenOf, valueOf}

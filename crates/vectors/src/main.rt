@@ -1,7 +1,7 @@
 // Plays the cases of standard input, one to a line, and writes one line for each case.
 //   read HEX    what a body is to a reader with groups 19 and 20: its length, kind and numbers; the lines `has` and `again` are of this body
-//   has F V     a published field of that body, group, counter, token, scalar, element or value: whether the reader hands back V for it, a number
-//               in decimal or octets in HEX (- for none)
+//   has F V     a published field of that body, group, counter, token, scalar, element or value, or what stands behind a Confirm: whether the
+//               reader hands back V for it, a number in decimal or octets in HEX (- for none)
 //   again       that body written from the parts that the reader handed back: whether the octets are the same
 //   new         a table of one slot, set up with the factory settings; it stands until the next
 //   only        the same with group 19 alone
@@ -28,14 +28,15 @@ const PEER: [u8; 6] = [2, 0, 0, 0, 0, 2];
 // The octets of a table of one slot.
 const TABLE: usize = 896;
 
-// What the reader hands back of a body: its numbers, where its token stands and how long it is, and where scalar or value stands.
+// What the reader hands back of a body: its numbers, where its token or what stands behind a Confirm begins and how long it is, and where scalar
+// or value stands.
 struct Parts {
     sequence: u16,
     status: u16,
     group: u16,
     counter: u16,
-    token: usize,
-    toklen: usize,
+    handed: usize,
+    length: usize,
     rest: usize,
 }
 
@@ -260,22 +261,27 @@ fn read_parts(t: &[u8], body: &[u8]) -> [u8; 20] {
 }
 
 fn parts_of(x: [u8; 20]) -> Parts {
-    let token = octets::get32(&x[..], 8);
-    let toklen = octets::get32(&x[..], 12);
+    let handed = octets::get32(&x[..], 8);
+    let length = octets::get32(&x[..], 12);
     let rest = octets::get32(&x[..], 16);
     Parts {
         sequence: octets::get16(&x[..], 0),
         status: octets::get16(&x[..], 2),
         group: octets::get16(&x[..], 4),
         counter: octets::get16(&x[..], 6),
-        token: token as usize,
-        toklen: toklen as usize,
+        handed: handed as usize,
+        length: length as usize,
         rest: rest as usize,
     }
 }
 
-fn token_in(body: &[u8], p: Parts) -> &[u8] {
-    first(from(body, p.token), p.toklen)
+// The part handed back if the body's sequence is this one: a Commit's token, or what stands behind a Confirm.
+fn handed_in(body: &[u8], p: Parts, sequence: u16) -> &[u8] {
+    let part = first(from(body, p.handed), p.length);
+    if p.sequence != sequence {
+        return first(part, 0);
+    }
+    part
 }
 
 // Scalar and element, or a Confirm's value of 32 octets; 0 is handed back for a body that has neither.
@@ -295,7 +301,10 @@ fn has_octets(letter: u8, body: &[u8], p: Parts, wanted: &[u8]) -> bool {
     let scalar = groups::scalar_length(p.group);
     let rest = rest_in(body, p);
     if letter == b't' {
-        return octets::is_same(token_in(body, p), wanted);
+        return octets::is_same(handed_in(body, p, 1), wanted);
+    }
+    if letter == b'b' {
+        return octets::is_same(handed_in(body, p, 2), wanted);
     }
     if letter == b's' {
         return octets::is_same(first(rest, scalar), wanted);
@@ -353,7 +362,7 @@ fn write_again(t: &[u8], body: &[u8], p: Parts, out: &mut [u8]) -> usize {
         p.status,
         p.group,
         p.counter,
-        token_in(body, p),
+        handed_in(body, p, 1),
         rest_in(body, p),
         out,
         &mut written,

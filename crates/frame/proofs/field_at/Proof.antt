@@ -40,7 +40,6 @@ use denote.Triple.Walked.{says, needs, Stays, stay-none, stay-none-slice, walkOf
 use denote.Exit.{yes}
 use denote.Triple.Clauses.{ensured}
 use Rattle.octets.specs.Octets.{part, num}
-use Rattle.frame.specs.declared.Field.{Field}
 use Rattle.frame.specs.declared.Reader.{Reader}
 use Rattle.frame.proofs.Field as N
 use Rattle.frame.proofs.Field.Laws as N′

@@ -2,7 +2,6 @@
 use native.Mathlib.Omega.{arith}
 use Rattle.frame.proofs.Reading.{head-status, head-reached, field-number, field-reached, confirm-other, confirm-short, confirm-cut, confirm-read}
 use borrow.Author.Tests.{not-true, not-false}
-use borrow.Author.Needs.{needs}
 use Rattle.frame.proofs.read_confirm.Statement.{statement}
 use Rattle.frame.proofs.read_confirm.Tie as tie
 
