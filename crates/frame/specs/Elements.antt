@@ -6,7 +6,7 @@ use lib.ListN.{length, take}
 use Rattle.frame.specs.Frame.{readBody, valueOf, elementsOf}
 use Rattle.frame.specs.declared.Body.the-variants.{Confirm, Malformed}
 
--- "identifier octet, length octet, contents": the length is that of the contents, so in a frame of octets at most 255
+-- "identifier octet, length octet, contents"
 pub record Element : Type 0 where
   pub identifier : ℕ
   pub contents : List ℕ
