@@ -19,18 +19,19 @@ use Rattle.record.specs.declared.Peer.{Peer}
 use Rattle.record.proofs.Laws.{ShapeLink, dec-enc-link}
 use Rattle.record.proofs.Windows.{laid, laid-put, used-left, address-left, run-window, run-left, link-window, link-left, no-run-left, no-link-left, no-peer-left}
 use Rattle.rules.specs.Parts.{withRun, withLink, withSync, withSc}
-use Rattle.rules.specs.Book.{factory, deadline, delay, setT0, sending, settled, abandoning, retransmitting, formedRun, forming, supersede, linkOfRun, accepting, endingLink}
+use Rattle.rules.specs.Book.{deadline, delay, setT0, sending, settled, abandoning, retransmitting, formedRun, forming, supersede, linkOfRun, accepting, endingLink}
 use Rattle.rules.specs.Said.{sayingFrames, sayingEvent, Does}
+use Rattle.rules.specs.declared.Clock.{Clock}
 use Rattle.rules.specs.declared.Event.the-variants as event
 use Rattle.rules.specs.declared.Frames.{Frames}
 use Rattle.rules.specs.declared.Said.{Said}
 
 -- ---- in the run's octets
 
-pub count-law : (s s₁ s₂ t : List ℕ) (sync sc time x : ℕ) → length s ≡ runSize width → sync < 256 → sc < 65536 → x < 4294967296 → x ≡ deadline time (delay factory sync)
-    → s₁ ≡ put s 1 (oct 1 sync) → s₂ ≡ put s₁ 3 (oct 2 sc) → t ≡ put s₂ 9 (oct 4 x) → decodeRun width t ≡ setT0 factory (withSync (withSc (decodeRun width s) sc) sync) time
+pub count-law : (s s₁ s₂ t : List ℕ) (sync sc : ℕ) (κ : Clock) (x : ℕ) → length s ≡ runSize width → sync < 256 → sc < 65536 → x < 4294967296 → x ≡ deadline (κ .time) (delay κ sync)
+    → s₁ ≡ put s 1 (oct 1 sync) → s₂ ≡ put s₁ 3 (oct 2 sc) → t ≡ put s₂ 9 (oct 4 x) → decodeRun width t ≡ setT0 κ (withSync (withSc (decodeRun width s) sc) sync)
 unfolding decodeRun runOf runWidths cut total setT0 withSync withSc
-count-law s s₁ s₂ t sync sc time x h bn bc bx e q₁ q₂ q =
+count-law s s₁ s₂ t sync sc κ x h bn bc bx e q₁ q₂ q =
     let A = laid-put s₁ 1 1 (oct 1 sync) (laid (runWidths width) s (runSize width) h) (lit< tt) (length-oct 1 sync) refl (omega (arith, length-oct 1 sync)) q₁ in
     let B = laid-put s₂ 3 3 (oct 2 sc) A (lit< tt) (length-oct 2 sc) refl (omega (arith, length-oct 2 sc)) q₂ in
     let L = laid-put t 6 9 (oct 4 x) B (lit< tt) (length-oct 4 x) refl (omega (arith, length-oct 4 x)) q in
@@ -47,12 +48,12 @@ count-law s s₁ s₂ t sync sc time x h bn bc bx e q₁ q₂ q =
       token = decodeRun width s .token;
     })
 
-pub form-law : (s s₁ s₂ s₃ s₄ s₅ s₆ s₇ t own theirs : List ℕ) (group time x : ℕ) → length s ≡ runSize width → group < 65536 → x < 4294967296 → x ≡ deadline time (delay factory 0)
+pub form-law : (s s₁ s₂ s₃ s₄ s₅ s₆ s₇ t own theirs : List ℕ) (group : ℕ) (κ : Clock) (x : ℕ) → length s ≡ runSize width → group < 65536 → x < 4294967296 → x ≡ deadline (κ .time) (delay κ 0)
     → length own ≡ width → length theirs ≡ width
     → s₁ ≡ put s 13 own → s₂ ≡ put s₁ 0 (oct 1 2) → s₃ ≡ put s₂ 1 (oct 1 0) → s₄ ≡ put s₃ 2 (oct 1 0) → s₅ ≡ put s₄ 3 (oct 2 1) → s₆ ≡ put s₅ 5 (oct 2 group) → s₇ ≡ put s₆ 9 (oct 4 x) → t ≡ put s₇ (13 + width) theirs
-    → decodeRun width t ≡ formedRun factory (decodeRun width s) group own theirs time
+    → decodeRun width t ≡ formedRun κ (decodeRun width s) group own theirs
 unfolding decodeRun runOf runWidths cut total setT0 formedRun
-form-law s s₁ s₂ s₃ s₄ s₅ s₆ s₇ t own theirs group time x h bg bx e lo lt q₁ q₂ q₃ q₄ q₅ q₆ q₇ q =
+form-law s s₁ s₂ s₃ s₄ s₅ s₆ s₇ t own theirs group κ x h bg bx e lo lt q₁ q₂ q₃ q₄ q₅ q₆ q₇ q =
     let A = laid-put s₁ 7 13 own (laid (runWidths width) s (runSize width) h) (lit< tt) lo refl (omega arith) q₁ in
     let B = laid-put s₂ 0 0 (oct 1 2) A (lit< tt) (length-oct 1 2) refl (omega (arith, length-oct 1 2)) q₂ in
     let C = laid-put s₃ 1 1 (oct 1 0) B (lit< tt) (length-oct 1 0) refl (omega (arith, length-oct 1 0)) q₃ in
@@ -111,12 +112,12 @@ module _ (s : List ℕ) (h : length s ≡ recordSize width) where
   unfolding withLink
   link-changed z l n e = link-left s h z l n e
 
-  pub send-law : (y : List ℕ) (sync sc time : ℕ) (fs : Frames) (x : Said) → length y ≡ runSize width
-      → decodeRun width y ≡ setT0 factory (withSync (withSc (decodeRun width (take (runSize width) (drop 7 s))) sc) sync) time → x ≡ sayingFrames fs
-      → Does x (putMid 7 (runSize width) s y) (sending factory (decodePeer width s) (withSync (withSc (decodePeer width s .run) sc) sync) fs 0 time)
+  pub send-law : (y : List ℕ) (sync sc : ℕ) (κ : Clock) (fs : Frames) (x : Said) → length y ≡ runSize width
+      → decodeRun width y ≡ setT0 κ (withSync (withSc (decodeRun width (take (runSize width) (drop 7 s))) sc) sync) → x ≡ sayingFrames fs
+      → Does x (putMid 7 (runSize width) s y) (sending κ (decodePeer width s) (withSync (withSc (decodePeer width s .run) sc) sync) fs 0)
   unfolding sending
-  send-law y sync sc time fs x n e q = record {
-    leaves = run-changed y _ n (e ∙ ap (λ (r : Run). setT0 factory (withSync (withSc r sc) sync) time) (run-window s h));
+  send-law y sync sc κ fs x n e q = record {
+    leaves = run-changed y _ n (e ∙ ap (λ (r : Run). setT0 κ (withSync (withSc r sc) sync)) (run-window s h));
     says = q;
   }
 
@@ -176,16 +177,16 @@ module _ (s : List ℕ) (h : length s ≡ recordSize width) where
       }
 
   -- "Form"
-  pub form-pair-law : (y z u v address own theirs : List ℕ) (group afresh time : ℕ) (fs : Frames) (x : Said)
+  pub form-pair-law : (y z u v address own theirs : List ℕ) (group afresh : ℕ) (κ : Clock) (fs : Frames) (x : Said)
       → length y ≡ runSize width → length z ≡ linkSize width → length (putMid 7 (runSize width) s y) ≡ recordSize width → length (putMid (7 + runSize width) (linkSize width) (putMid 7 (runSize width) s y) z) ≡ recordSize width → length u ≡ recordSize width → length address ≡ 6
-      → decodeRun width y ≡ formedRun factory (decodeRun width (take (runSize width) (drop 7 s))) group own theirs time
+      → decodeRun width y ≡ formedRun κ (decodeRun width (take (runSize width) (drop 7 s))) group own theirs
       → decodeLink width z ≡ supersede (decodeLink width (take (linkSize width) (drop (7 + runSize width) (putMid 7 (runSize width) s y))))
       → u ≡ put (putMid (7 + runSize width) (linkSize width) (putMid 7 (runSize width) s y) z) 0 (oct 1 1) → v ≡ put u 1 address
       → x ≡ record { event = event.None; frames = fs; afresh = afresh; refused = false }
-      → Does x v (forming factory (decodePeer width s) address group own theirs fs afresh time)
+      → Does x v (forming κ (decodePeer width s) address group own theirs fs afresh)
   unfolding forming
-  form-pair-law y z u v address own theirs group afresh time fs x ny nz na nb nu nd ey ez eu ev w =
-      let a = run-left s h y (formedRun factory (decodePeer width s .run) group own theirs time) ny (ey ∙ ap (λ (r : Run). formedRun factory r group own theirs time) (run-window s h)) in
+  form-pair-law y z u v address own theirs group afresh κ fs x ny nz na nb nu nd ey ez eu ev w =
+      let a = run-left s h y (formedRun κ (decodePeer width s .run) group own theirs) ny (ey ∙ ap (λ (r : Run). formedRun κ r group own theirs) (run-window s h)) in
       let k = link-window (putMid 7 (runSize width) s y) na in
       let b = link-left (putMid 7 (runSize width) s y) na z (supersede (decodePeer width s .link)) nz (ez ∙ ap supersede (k ∙ ap (λ (p : Peer). p .link) a)) in
       let c = used-left (putMid (7 + runSize width) (linkSize width) (putMid 7 (runSize width) s y) z) nb 1 (lit< tt) in
@@ -197,16 +198,16 @@ module _ (s : List ℕ) (h : length s ≡ recordSize width) where
       }
 
 -- "Repeat"
-module _ (s u : List ℕ) (x : Said) (sc time : ℕ) (fs : Frames) (n : ℕ) (e : n ≡ decodePeer width s .run .sync) where
-  pub repeat-ended : 5 < n → Does x u (abandoning (decodePeer width s)) → Does x u (retransmitting factory (decodePeer width s) (withSc (decodePeer width s .run) sc) fs time)
+module _ (s u : List ℕ) (x : Said) (sc : ℕ) (κ : Clock) (fs : Frames) (n : ℕ) (e : n ≡ decodePeer width s .run .sync) where
+  pub repeat-ended : κ .limit < n → Does x u (abandoning (decodePeer width s)) → Does x u (retransmitting κ (decodePeer width s) (withSc (decodePeer width s .run) sc) fs)
   unfolding retransmitting
-  repeat-ended l d = let k : ltb 5 (decodePeer width s .run .sync) ≡ true = lt-ltb _ _ (subst (λ (m : ℕ). 5 < m) e l) in rw k d
+  repeat-ended l d = let k : ltb (κ .limit) (decodePeer width s .run .sync) ≡ true = lt-ltb _ _ (subst (λ (m : ℕ). κ .limit < m) e l) in rw k d
 
-  pub repeat-sent : n ≤ 5 → Does x u (sending factory (decodePeer width s) (withSync (withSc (decodePeer width s .run) sc) (n + 1)) fs 0 time) → Does x u (retransmitting factory (decodePeer width s) (withSc (decodePeer width s .run) sc) fs time)
+  pub repeat-sent : n ≤ κ .limit → Does x u (sending κ (decodePeer width s) (withSync (withSc (decodePeer width s .run) sc) (n + 1)) fs 0) → Does x u (retransmitting κ (decodePeer width s) (withSc (decodePeer width s .run) sc) fs)
   unfolding retransmitting
   repeat-sent l d =
-      let k : ltb 5 (decodePeer width s .run .sync) ≡ false = le-ltb _ _ (subst (λ (m : ℕ). m ≤ 5) e l) in
-      rw k (subst (λ (m : ℕ). Does x u (sending factory (decodePeer width s) (withSync (withSc (decodePeer width s .run) sc) (m + 1)) fs 0 time)) e d)
+      let k : ltb (κ .limit) (decodePeer width s .run .sync) ≡ false = le-ltb _ _ (subst (λ (m : ℕ). m ≤ κ .limit) e l) in
+      rw k (subst (λ (m : ℕ). Does x u (sending κ (decodePeer width s) (withSync (withSc (decodePeer width s .run) sc) (m + 1)) fs 0)) e d)
 
 -- the link that a run becomes, stored
 pub linked-law : (u : List ℕ) (r : Run) (counter time t1 : ℕ) → t1 ≡ deadline time 86400000 → ShapeLink width (record { finished = 1; superseded = 0; sync = r .sync; spare = 0; group = r .group; rc = counter; t1 = t1; own = r .own; peer = r .peer })

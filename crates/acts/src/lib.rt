@@ -6,8 +6,9 @@ ghost use lib.ListN.{length};
 ghost use Rattle.groups.specs.Groups.{width};
 ghost use Rattle.record.specs.Layout.{decodeRun, decodeLink, decodePeer, runSize, linkSize, recordSize};
 ghost use Rattle.rules.specs.Parts.{withSync, withSc};
-ghost use Rattle.rules.specs.Book.{factory, commitFrame, tokenRequestFrame, groupRefusalFrame, confirmFrame, setT0, sending, abandoning, retransmitting, supersede, formedRun, forming, linkOfRun, accepting, endingLink};
+ghost use Rattle.rules.specs.Book.{commitFrame, tokenRequestFrame, groupRefusalFrame, confirmFrame, setT0, sending, abandoning, retransmitting, supersede, formedRun, forming, linkOfRun, accepting, endingLink};
 ghost use Rattle.rules.specs.Said.{sayingFrames, sayingEvent, sayingRefused, Does};
+ghost use Rattle.rules.specs.Given.{Paced};
 use groups::COMMIT;
 use record::ADDRESS;
 use record::FINISHED;
@@ -24,9 +25,9 @@ use record::SC;
 use record::STATE;
 use record::SUPERSEDED;
 use record::SYNC;
-use record::Settings;
 use record::T0;
 use record::USED;
+use rules::Clock;
 use rules::Event;
 use rules::Frame;
 use rules::Frames;
@@ -79,22 +80,22 @@ pub fn confirm_frame(counter: u16) -> Frame
 // ---- in the run's octets
 
 // Another Sync and Sc, and t0 set.
-fn count_run(r: &mut [u8], sync: u8, sc: u16, time: u32)
-    requires { ⌜ (length (now r) ≡ runSize width) × (sync ≤ 6) ⌝ }
-    ensures { λ _. ⌜ decodeRun width (now (r .exit)) ≡ setT0 factory (withSync (withSc (decodeRun width (now (r .entry))) sc) sync) time ⌝ }
+fn count_run(r: &mut [u8], sync: u8, sc: u16, clock: Clock)
+    requires { ⌜ Paced clock × ((length (now r) ≡ runSize width) × (sync ≤ clock .limit + 1)) ⌝ }
+    ensures { λ _. ⌜ decodeRun width (now (r .exit)) ≡ setT0 clock (withSync (withSc (decodeRun width (now (r .entry))) sc) sync) ⌝ }
 {
-    let at = deadlines::t0_at(time, sync);
+    let at = deadlines::t0_at(clock, sync);
     octets::put8(r, SYNC, sync);
     octets::put16(r, SC, sc);
     octets::put32(r, T0, at);
 }
 
 // The run of "Form": its token stays. The own commit is stored first, so that it is copied once.
-fn form_run(r: &mut [u8], group: u16, own: [u8; COMMIT], theirs: [u8; COMMIT], time: u32)
-    requires { ⌜ length (now r) ≡ runSize width ⌝ }
-    ensures { λ _. ⌜ decodeRun width (now (r .exit)) ≡ formedRun factory (decodeRun width (now (r .entry))) group own theirs time ⌝ }
+fn form_run(r: &mut [u8], group: u16, own: [u8; COMMIT], theirs: [u8; COMMIT], clock: Clock)
+    requires { ⌜ Paced clock × (length (now r) ≡ runSize width) ⌝ }
+    ensures { λ _. ⌜ decodeRun width (now (r .exit)) ≡ formedRun clock (decodeRun width (now (r .entry))) group own theirs ⌝ }
 {
-    let at = deadlines::t0_at(time, 0);
+    let at = deadlines::t0_at(clock, 0);
     groups::put_commit(r, RUN_OWN, own);
     octets::put8(r, STATE, 2);
     octets::put8(r, SYNC, 0);
@@ -180,11 +181,11 @@ pub fn say_refused() -> Said
 }
 
 // Frames are sent for a run with another Sync and Sc, and t0 is set.
-pub fn send_counted(s: &mut [u8], sync: u8, sc: u16, frames: Frames, time: u32) -> Said
-    requires { ⌜ (length (now s) ≡ recordSize width) × (sync ≤ 6) ⌝ }
-    ensures { λ x. ⌜ Does x (now (s .exit)) (sending factory (decodePeer width (now (s .entry))) (withSync (withSc (decodePeer width (now (s .entry)) .run) sc) sync) frames 0 time) ⌝ }
+pub fn send_counted(s: &mut [u8], sync: u8, sc: u16, frames: Frames, clock: Clock) -> Said
+    requires { ⌜ Paced clock × ((length (now s) ≡ recordSize width) × (sync ≤ clock .limit + 1)) ⌝ }
+    ensures { λ x. ⌜ Does x (now (s .exit)) (sending clock (decodePeer width (now (s .entry))) (withSync (withSc (decodePeer width (now (s .entry)) .run) sc) sync) frames 0) ⌝ }
 {
-    count_run(&mut s[RUN..LINK], sync, sc, time);
+    count_run(&mut s[RUN..LINK], sync, sc, clock);
     say_frames(frames)
 }
 
@@ -203,15 +204,16 @@ pub fn abandon(s: &mut [u8]) -> Said
 }
 
 // "Repeat", with the Sc that the run then has.
-pub fn retransmit(s: &mut [u8], sc: u16, frames: Frames, time: u32) -> Said
-    requires { ⌜ length (now s) ≡ recordSize width ⌝ }
-    ensures { λ x. ⌜ Does x (now (s .exit)) (retransmitting factory (decodePeer width (now (s .entry))) (withSc (decodePeer width (now (s .entry)) .run) sc) frames time) ⌝ }
+pub fn retransmit(s: &mut [u8], sc: u16, frames: Frames, clock: Clock) -> Said
+    requires { ⌜ Paced clock × (length (now s) ≡ recordSize width) ⌝ }
+    ensures { λ x. ⌜ Does x (now (s .exit)) (retransmitting clock (decodePeer width (now (s .entry))) (withSc (decodePeer width (now (s .entry)) .run) sc) frames) ⌝ }
 {
+    let limit = clock.limit;
     let sync = record::sync_of(s);
-    if sync > Settings::SYNC_LIMIT {
+    if sync > limit {
         return abandon(s);
     }
-    send_counted(s, sync + 1, sc, frames, time)
+    send_counted(s, sync + 1, sc, frames, clock)
 }
 
 // "Form".
@@ -223,12 +225,12 @@ pub fn form_pair(
     theirs: [u8; COMMIT],
     frames: Frames,
     afresh: u16,
-    time: u32,
+    clock: Clock,
 ) -> Said
-    requires { ⌜ length (now s) ≡ recordSize width ⌝ }
-    ensures { λ x. ⌜ Does x (now (s .exit)) (forming factory (decodePeer width (now (s .entry))) address group own theirs frames afresh time) ⌝ }
+    requires { ⌜ Paced clock × (length (now s) ≡ recordSize width) ⌝ }
+    ensures { λ x. ⌜ Does x (now (s .exit)) (forming clock (decodePeer width (now (s .entry))) address group own theirs frames afresh) ⌝ }
 {
-    form_run(&mut s[RUN..LINK], group, own, theirs, time);
+    form_run(&mut s[RUN..LINK], group, own, theirs, clock);
     supersede_link(&mut s[LINK..RECORD]);
     octets::put8(s, USED, 1);
     octets::put6(s, ADDRESS, address);

@@ -2,8 +2,8 @@
 use mathlib.Core.Path.{_≡_, refl, sym, ap, _∙_}
 use mathlib.Core.Logic.{_⊎_, inl, inr}
 use mathlib.Core.Bool.{Bool, true, false}
-use mathlib.Core.List.{List, []}
-use Prim.Native.Nat.{ℕ, _+_, _≤_}
+use mathlib.Core.List.{List}
+use Prim.Native.Nat.{ℕ, _+_, _≤_, _<_}
 use native.Mathlib.Omega.{arith}
 use lib.Dec.{eqb}
 use borrow.Author.Tests.{ne-eqb, not-true}
@@ -152,8 +152,8 @@ own-is q e f = commit-is (ownCommit q) e f
 peer-commit-is : (q : Peer) {g : ℕ} {o : List ℕ} → q .run .group ≡ g → q .run .peer ≡ o → peerCommit q ≡ record { group = g; octets = o }
 peer-commit-is q e f = commit-is (peerCommit q) e f
 
-small-counter : (n m : ℕ) → n ≡ m + 1 → m ≤ 5 → eqb (n + 1) 65535 ≡ false
-small-counter n m e l = ne-eqb (n + 1) 65535 (λ z. omega arith)
+small-counter : (n m limit : ℕ) → n ≡ m + 1 → m ≤ limit → limit + 1 < 256 → eqb (n + 1) 65535 ≡ false
+small-counter n m limit e l k = ne-eqb (n + 1) 65535 (λ z. omega arith)
 
 link-pair : (l : Link) → eqb (l .finished) 0 ≡ false
     → model.LinkPair (viewLink l) (record { group = l .group; octets = l .own }) (record { group = l .group; octets = l .peer })
@@ -174,13 +174,13 @@ module _ (gs : List ℕ) (c : Call) where
     confirms = λ x a i. absurd (n x a i);
   }
 
-  pub did : (p : Peer) {o : Step} → (p .run .state ≡ 2 → p .run .sc ≡ p .run .sync + 1) → Does gs c p o → (e : Act) × Did gs c p o e
+  pub did : (limit : ℕ) → limit + 1 < 256 → (p : Peer) {o : Step} → (p .run .state ≡ 2 → p .run .sc ≡ p .run .sync + 1) → Does gs limit c p o → (e : Act) × Did gs c p o e
   unfolding view
-  did p K (quiet {q} n E L) =
+  did limit low p K (quiet {q} n E L) =
       (idle, idle-did p q _ refl (peer-is (view-same-run p q E) (view-same-link p q L)) (λ x m i j. none-among m) (λ x m i. none-among m))
-  did p K (informs n s y) =
+  did limit low p K (informs n s y) =
       (idle, idle-did p p _ refl refl (among-one (λ x. isConfirm x ≡ false → eqb (x .status) 0 ≡ true → ⊥) (λ i j. clash j y)) (among-one (λ x. isConfirm x ≡ true → ⊥) (λ i. clash i refl)))
-  did p K (starts {q} {g} {own} n m s A C k) = (
+  did limit low p K (starts {q} {g} {own} n m s A C k) = (
     fresh (record { group = g; octets = own }),
     record {
       moves = peer-is (sym (view-committed (q .run) (C .state) (C .group) (C .own))) (ap viewLink (sym k));
@@ -192,7 +192,7 @@ module _ (gs : List ℕ) (c : Call) where
       confirms = among-one (λ x. isConfirm x ≡ true → Over q x _) (λ i. absurd (clash i refl));
     },
   )
-  did p K (switches {q} {g} {own} n s A C k) = (
+  did limit low p K (switches {q} {g} {own} n s A C k) = (
     fresh (record { group = g; octets = own }),
     record {
       moves = peer-is (sym (view-committed (q .run) (C .state) (C .group) (C .own))) (ap viewLink (sym k));
@@ -204,7 +204,7 @@ module _ (gs : List ℕ) (c : Call) where
       confirms = among-one (λ x. isConfirm x ≡ true → Over q x _) (λ i. absurd (clash i refl));
     },
   )
-  did p K (forms-fresh {q} {g} {own} {theirs} n s A H C k) = (
+  did limit low p K (forms-fresh {q} {g} {own} {theirs} n s A H C k) = (
     formFresh (record { group = g; octets = own }) (record { group = g; octets = theirs }),
     record {
       moves = peer-is (sym (view-confirmed (q .run) (C .state) (C .group) (C .own) (C .peer))) (sym (ap viewLink k ∙ view-supersede (p .link)));
@@ -227,7 +227,7 @@ module _ (gs : List ℕ) (c : Call) where
       unpaired : (p .run .state ≡ 0) ⊎ (p .run .state ≡ 1) → Unpaired (viewRun (p .run))
       unpaired (inl e) = rw (view-nothing (p .run) e) tt
       unpaired (inr e) = rw (view-committed (p .run) e refl refl) tt
-  did p K (forms-own {q} {theirs} n s H C k) = (
+  did limit low p K (forms-own {q} {theirs} n s H C k) = (
     formOwn (ownCommit p) (record { group = p .run .group; octets = theirs }),
     record {
       moves = peer-is (sym (view-confirmed (q .run) (C .state) (C .group) (C .own) (C .peer))) (sym (ap viewLink k ∙ view-supersede (p .link)));
@@ -247,7 +247,7 @@ module _ (gs : List ℕ) (c : Call) where
           (λ i. over-run refl (C .state) (own-is q (C .group) (C .own), peer-commit-is q (C .group) (C .peer)));
     },
   )
-  did p K (repeats {q} n s m C k) = (
+  did limit low p K (repeats {q} n s m C k) = (
     sendCommit (ownCommit p),
     record {
       moves = peer-is (view-committed (p .run) s refl refl ∙ sym (view-committed (q .run) (C .state) (C .group) (C .own))) (ap viewLink (sym k));
@@ -259,7 +259,7 @@ module _ (gs : List ℕ) (c : Call) where
       confirms = among-one (λ x. isConfirm x ≡ true → Over q x (sendCommit (ownCommit p))) (λ i. absurd (clash i refl));
     },
   )
-  did p K (repeats-both {q} n s m C k) = (
+  did limit low p K (repeats-both {q} n s m C k) = (
     sendBoth (ownCommit p) (peerCommit p),
     record {
       moves = peer-is (view-confirmed (p .run) s refl refl refl ∙ sym (view-confirmed (q .run) (C .state) (C .group) (C .own) (C .peer))) (ap viewLink (sym k));
@@ -269,10 +269,10 @@ module _ (gs : List ℕ) (c : Call) where
       accepts = λ d q u. absurd u;
       commits = λ x m i j. own-is q (C .group) (C .own);
       confirms = among-two (λ x. isConfirm x ≡ true → Over q x (sendBoth (ownCommit p) (peerCommit p)))
-          (λ i. absurd (clash i refl)) (λ i. over-run (small-counter _ _ (K s) m) (C .state) (own-is q (C .group) (C .own), peer-commit-is q (C .group) (C .peer)));
+          (λ i. absurd (clash i refl)) (λ i. over-run (small-counter _ _ limit (K s) m low) (C .state) (own-is q (C .group) (C .own), peer-commit-is q (C .group) (C .peer)));
     },
   )
-  did p K (repeats-confirm {q} n s m C k) = (
+  did limit low p K (repeats-confirm {q} n s m C k) = (
     sendConfirm (ownCommit p) (peerCommit p),
     record {
       moves = peer-is (view-confirmed (p .run) s refl refl refl ∙ sym (view-confirmed (q .run) (C .state) (C .group) (C .own) (C .peer))) (ap viewLink (sym k));
@@ -282,10 +282,10 @@ module _ (gs : List ℕ) (c : Call) where
       accepts = λ d q u. absurd u;
       commits = among-one (λ x. isConfirm x ≡ false → eqb (x .status) 0 ≡ true → SendsCommit (ownCommit q) (sendConfirm (ownCommit p) (peerCommit p))) (λ i j. absurd (clash refl i));
       confirms = among-one (λ x. isConfirm x ≡ true → Over q x (sendConfirm (ownCommit p) (peerCommit p)))
-          (λ i. over-run (small-counter _ _ (K s) m) (C .state) (own-is q (C .group) (C .own), peer-commit-is q (C .group) (C .peer)));
+          (λ i. over-run (small-counter _ _ limit (K s) m low) (C .state) (own-is q (C .group) (C .own), peer-commit-is q (C .group) (C .peer)));
     },
   )
-  did p K (accepts {q} n s v k i j g x y) = (
+  did limit low p K (accepts {q} n s v k i j g x y) = (
     accept (ownCommit p) (peerCommit p),
     record {
       moves = peer-is (sym (view-no-run (q .run) k)) (sym (view-finished (q .link) _ _ _ i j g x y));
@@ -297,7 +297,7 @@ module _ (gs : List ℕ) (c : Call) where
       confirms = λ x m i. none-among m;
     },
   )
-  did p K (abandons {q} n k i) = (
+  did limit low p K (abandons {q} n k i) = (
     endRun,
     record {
       moves = peer-is (sym (view-no-run (q .run) k)) (ap viewLink (sym i));
@@ -309,7 +309,7 @@ module _ (gs : List ℕ) (c : Call) where
       confirms = λ x m i. none-among m;
     },
   )
-  did p K (ends {q} n k i) = (
+  did limit low p K (ends {q} n k i) = (
     endLink,
     record {
       moves = peer-is (ap viewRun (sym k)) (sym (view-no-link (q .link) i));
@@ -321,7 +321,7 @@ module _ (gs : List ℕ) (c : Call) where
       confirms = λ x m i. none-among m;
     },
   )
-  did p K (answers {q} n s f k E) = (
+  did limit low p K (answers {q} n s f k E) = (
     sendConfirm (linkOwn p) (linkPeer p),
     record {
       moves = peer-is (ap viewRun (sym k)) (view-same-link p q E);

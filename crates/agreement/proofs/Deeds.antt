@@ -1,7 +1,7 @@
 -- What a call is to one address: an act of the protocol, with what its answer says of it.
 use mathlib.Core.Path.{_≡_, refl, sym, ap, _∙_, subst}
-use mathlib.Core.Bool.{Bool, true, false, not}
-use mathlib.Core.List.{List, []}
+use mathlib.Core.Bool.{Bool, true, false}
+use mathlib.Core.List.{List}
 use Prim.Native.Nat.{ℕ, _+_}
 use lib.Dec.{eqb}
 use Rattle.protocol.specs.Model.{Commit, Act, endBoth, idle, act, Uses, Forms, SendsCommit, Accepts, Guard, nothing, unlinked}
@@ -19,8 +19,9 @@ use Rattle.rules.specs.Book.{Step}
 use Rattle.answers.specs.declared.Answer.{Answer}
 use Rattle.answers.specs.Answers.{said}
 use Rattle.calls.specs.Calls.{killStep}
+use Rattle.call_laws.proofs.Good.{high-low}
 use Rattle.agreement.specs.Calls.{Call, kill, receive, left, done, tableAfter}
-use Rattle.agreement.specs.Story.{Pair, Story, isFrame, isConfirm, isAccepted, usesAfresh, usedAfresh, formsPair, groupsIn}
+use Rattle.agreement.specs.Story.{Pair, Story, isFrame, isConfirm, isAccepted, usesAfresh, usedAfresh, formsPair, groupsIn, limitIn}
 use Rattle.agreement.specs.Sent.{Among}
 use Rattle.agreement.proofs.Rules.{Hears, Verified, verified}
 use Rattle.agreement.proofs.Shows.{RunShows, no-run, unpaired, paired, Shows, shows-state, shows-whole, zero-two, one-two}
@@ -141,13 +142,13 @@ step-deed gs c u a b p o e k s w D = record {
 
 -- ---- Sc in Confirmed
 
-run-counted : {r : Run} {b d : Bool} {f : Commit} {x : Pair} {ks : List Tally} → RunShows r b d f x ks → r .state ≡ 2 → r .sc ≡ r .sync + 1
+run-counted : {limit : ℕ} {r : Run} {b d : Bool} {f : Commit} {x : Pair} {ks : List Tally} → RunShows limit r b d f x ks → r .state ≡ 2 → r .sc ≡ r .sync + 1
 run-counted (no-run e) s = zero-two (no-run-state _ e) s
-run-counted (unpaired e a b c d f) s = one-two e s
-run-counted (paired e a b c d f g) s = f
+run-counted (unpaired e a b c d f u) s = one-two e s
+run-counted (paired e a b c d f g u) s = f
 
-pub shows-counted : (p : Peer) (s : Story) → Shows p s → p .run .state ≡ 2 → p .run .sc ≡ p .run .sync + 1
-shows-counted p s S = run-counted (S .run)
+pub shows-counted : (limit : ℕ) (p : Peer) (s : Story) → Shows limit p s → p .run .state ≡ 2 → p .run .sc ≡ p .run .sync + 1
+shows-counted limit p s S = run-counted (S .run)
 
 -- ---- every call
 
@@ -173,7 +174,7 @@ module _ (t : List ℕ) where
   abbrev DeedOf : Call → List ℕ → Act → Type 0
   DeedOf c b e = Deed (groupsIn t) c (done t c) (left t c .answer) (tableAfter t c) b (look (decodeTable t) b) (look (decodeTable (tableAfter t c)) b) e
 
-  pub deed : {c : Call} (b : List ℕ) (s : Story) → Ends t c → Shows (look (decodeTable t) b) s → (e : Act) × DeedOf c b e
+  pub deed : {c : Call} (b : List ℕ) (s : Story) → Ends t c → Shows (limitIn t) (look (decodeTable t) b) s → (e : Act) × DeedOf c b e
   deed {c} b s (idles d e) S =
       (idle, deed-at refl refl refl (ap (λ (x : List ℕ). look (decodeTable x) b) e) (apart-deed (groupsIn t) c (done t c) _ _ b _ (λ k a. clash k d)))
   deed b s (sets-up d f y n) S = (endBoth, ended-deed _ _ _ _ _ b _ _ (n b) f)
@@ -191,8 +192,8 @@ module _ (t : List ℕ) where
       go : (x : Bool) → sameAddress a b ≡ x → (e : Act) × DeedOf c b e
       go true e =
           let p = look-same-address (decodeTable t) a b e in
-          let g = subst (λ (q : Peer). Shows q s) p S in
-          let z = did (groupsIn t) c (look (decodeTable t) a) (shows-counted _ s g) (D (shows-whole _ s g) (shows-state _ s g)) in
+          let g = subst (λ (q : Peer). Shows (limitIn t) q s) p S in
+          let z = did (groupsIn t) c (limitIn t) (high-low t (M .was)) (look (decodeTable t) a) (shows-counted _ _ s g) (D (shows-whole _ _ s g) (shows-state _ _ s g)) in
           (z .0, deed-at d (M .answer) p (look-same-address _ a b e ∙ M .here) (step-deed (groupsIn t) c (tableAfter t c) a b _ o (z .0) k e (M .sound) (z .1)))
       go false e = (
         idle,

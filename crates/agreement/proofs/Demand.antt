@@ -7,12 +7,13 @@ use native.Mathlib.Omega.{arith}
 use Rattle.protocol.specs.Model.{Commit, Side, A, B, other, state, unlinked, finished}
 use Rattle.protocol.specs.Model as model
 use Rattle.protocol.specs.Repeats.{latest}
+use Rattle.protocol.proofs.Repeats.{limited-within}
 use Rattle.protocol.proofs.Formed.{formed-before}
 use Rattle.protocol.proofs.Agree.{agreement}
 use Rattle.octets.specs.Scan.{bit}
 use Rattle.record.specs.declared.Link.{Link}
 use Rattle.record.specs.declared.Peer.{Peer}
-use Rattle.record.specs.Layout.{noLink}
+use Rattle.record.specs.Layout.{noLink, factoryLimit}
 use Rattle.table.specs.Table.{decodeTable, look}
 use Rattle.rules.specs.Book.{_isnt_}
 use Rattle.call_laws.proofs.Good as good
@@ -23,7 +24,7 @@ use Rattle.agreement.specs.Statement.{run, Premises, Says, no-link, a-li
 use Rattle.agreement.specs.Needed.{Needed, Stronger}
 use Rattle.agreement.proofs.Engine.{Lawful}
 use Rattle.agreement.proofs.Shows.{shows-counts}
-use Rattle.agreement.proofs.History.{shown}
+use Rattle.agreement.proofs.History.{shown, limits}
 use Rattle.agreement.proofs.Acts.{view, viewLink}
 use Rattle.agreement.proofs.Valid.{ownOf, peerOf, pair-is, other-other, hist, states, rightful, valid, formed-in}
 
@@ -92,13 +93,15 @@ demand3 own h H = record {
   says = λ X a. shown lawful H X a .link;
   agree = λ P. demand3-needed own h H .agree (premises-needed own h P);
   formed = λ P. demand3-needed own h H .formed (premises-needed own h P .rightful);
-  six = λ X a. shown lawful H X a .six;
+  repeats = λ X a. shown lawful H X a .repeats;
+  limits = limits lawful H;
+  six = λ X a. limited-within factoryLimit _ (limits lawful H X a) (shown lawful H X a .repeats);
 }
 
 -- and Sync counts every repeat, with no exception: of a run in being, those since it began or, once its pair stands, since then
 pub sync-counts : (h : List Entry) → AllHanded h → (X : Side) (a : List ℕ) → storyOf h X a .running ≡ true
     → look (decodeTable (tableOf h X)) a .run .sync ≡ latest (storyOf h X a .stands) (storyOf h X a .runs)
-sync-counts h H X a q = shows-counts _ (storyOf h X a) (shown lawful H X a) q
+sync-counts h H X a q = shows-counts _ _ (storyOf h X a) (shown lawful H X a) q
 
 -- and so for the tables: two finished links with each other, neither marked, have the same group and the same two commits
 record Linked (l : story.Link) (k : Link) : Type 0 where

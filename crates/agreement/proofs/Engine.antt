@@ -5,7 +5,7 @@ use mathlib.Core.Bool.{Bool, true, false, not}
 use mathlib.Core.List.{List, []}
 use Prim.Native.Nat.{ℕ, _+_, _^_, _≤_, _<_}
 use native.Mathlib.Omega.{arith}
-use lib.Dec.{eqb, ltb}
+use lib.Dec.{eqb, ltb, lit<}
 use lib.ListN.{length}
 use borrow.Author.Tests.{eqb-true, not-false}
 use Rattle.octets.specs.Scan.{if_then_else_}
@@ -20,12 +20,13 @@ use Rattle.frame.specs.declared.Body.{Body}
 use Rattle.frame.specs.declared.Body.the-variants as body
 use Rattle.frame.proofs.Shapes.{commit-shape, other-confirm-shape}
 use Rattle.record.specs.declared.Peer.{Peer}
+use Rattle.record.specs.declared.Counts.{Counts}
 use Rattle.record.specs.declared.Header.{Header}
-use Rattle.record.specs.Layout.{groupsOf, counted, noPeer, decodeHeader, headerOf}
+use Rattle.record.specs.Layout.{groupsOf, limitOf, counted, noPeer, decodeHeader, headerOf}
 use Rattle.record.specs.SettingsOctets.{settingsOf, reservedZero}
-use Rattle.soundness.proofs.Laws.{header-form, groups-form, groups-length}
-use Rattle.table.specs.Table.{Table, decodeTable, slot, finds, look, lookBy, sound, entry}
-use Rattle.table.specs.Initial.{initialOk, slotsFor}
+use Rattle.soundness.proofs.Laws.{header-form, settings-form, groups-form, groups-length}
+use Rattle.table.specs.Table.{Table, decodeTable, encodeTable, recounted, slot, finds, look, lookBy, sound, entry}
+use Rattle.table.specs.Initial.{initialOk, slotsFor, initialTable, initial}
 use Rattle.table.specs.declared.Entry.{Entry}
 use Rattle.table.specs.declared.Entry.the-variants as entry-is
 use Rattle.table.proofs.Laws.{entry-at, entry-absent, sound-header}
@@ -38,14 +39,15 @@ use Rattle.answers.specs.declared.Refusal.the-variants as why
 use Rattle.answers.specs.declared.Turn.{Turn}
 use Rattle.answers.specs.declared.Turn.the-variants.{Refused, Go}
 use Rattle.answers.specs.declared.Answer.{Answer}
-use Rattle.answers.specs.Answers.{Left, turned, finishes, refuse, refused, quiet, noneDue, said}
-use Rattle.answers.proofs.Laws.{Entered, old, new}
+use Rattle.answers.specs.Answers.{Left, ends, turned, finishes, refuse, refused, quiet, noneDue, said}
+use Rattle.answers.proofs.Laws.{Entered, old, new, unchanged-ends}
 use Rattle.answers.proofs.Theorems.{Good}
 use Rattle.answers.proofs.Ending.{Finished, Turned, turn-ends, finish-ends}
 use Rattle.answers.proofs.Ending as ending
-use Rattle.calls.specs.Calls.{initializes, initializesFrom, initiates, kills, receives, expires, expiresBy, termsOf, brings, noToken, admitStart, startTurn, startStep, killTurn, killStep, admitFrame, frameTurn, frameStep, dueSlot, clockStep}
+use Rattle.calls.specs.Calls.{initializes, initializesFrom, initiates, kills, receives, expires, expiresBy, termsOf, clockOf, brings, noToken, admitStart, startTurn, startStep, killTurn, killStep, admitFrame, frameTurn, frameStep, dueSlot, clockStep}
+use Rattle.call_laws.proofs.Ends.{set-up-leaves}
 use Rattle.agreement.specs.Calls.{Writing, Call, initialize, initiate, kill, receive, expire, write, Octets, CallHanded, an-initialize, an-initiate, a-kill, a-receive, an-expire, a-write, left, isDone, done, tableAfter}
-use Rattle.agreement.specs.Story.{stockOf, groupsIn}
+use Rattle.agreement.specs.Story.{stockOf, groupsIn, limitIn}
 use Rattle.agreement.proofs.Rules.{Whole, Verified, verified, Does}
 use Rattle.agreement.proofs.Ruled.{State, Heard, Stocked, frame-does, clock-does, start-does}
 use Rattle.agreement.proofs.Stock.{sound-listing, stocked}
@@ -128,7 +130,7 @@ module _ (t : List ℕ) (s : sound t ≡ true) where
   first-listed : 0 < length (groupsIn t)
   unfolding decodeTable decodeHeader headerOf
   first-listed =
-      let g = header-form _ (sound-header t s) .groups in
+      let g = settings-form _ (header-form _ (sound-header t s) .settings) .groups in
       let n = groups-length _ _ refl g in
       let m = groups-form _ _ g .some in
       omega (arith, n, m)
@@ -138,11 +140,11 @@ module _ (t : List ℕ) (s : sound t ≡ true) where
 
 start-kind : (t a : List ℕ) (time : ℕ) (fresh : List ℕ) (f : Found) → sound t ≡ true → startTurn (entry t a) t fresh ≡ Go f
     → startStep (decodeTable t) f a time fresh .refused ≡ false
-    → Does (groupsIn t) (initiate a time fresh) (lookBy (decodeTable t) f) (startStep (decodeTable t) f a time fresh)
+    → Does (groupsIn t) (limitIn t) (initiate a time fresh) (lookBy (decodeTable t) f) (startStep (decodeTable t) f a time fresh)
 unfolding startStep
 start-kind t a time fresh f s e r =
     let q = start-admits (entry t a) t fresh f e in
-    start-does (termsOf (decodeTable t) f) (brings a time fresh noToken false) (initiate a time fresh) (lookBy (decodeTable t) f) refl refl (eqb-true _ _ (q .1))
+    start-does (termsOf (decodeTable t) f) (brings a (clockOf (decodeTable t .header) time) fresh noToken false) (initiate a time fresh) (lookBy (decodeTable t) f) refl refl (eqb-true _ _ (q .1))
     (all-stocked t s (initiate a time fresh) (q .0) .place 0 _ (first-listed t s) refl) r
 
 module _ (gs a : List ℕ) (time : ℕ) (frame fresh expected : List ℕ) (verdict : ℕ) where
@@ -179,22 +181,22 @@ module _ (gs a : List ℕ) (time : ℕ) (frame fresh expected : List ℕ) (verdi
 
 frame-kind : (t a : List ℕ) (time : ℕ) (frame fresh expected : List ℕ) (verdict : ℕ) (f : Found) → Stocked (groupsIn t) (receive a time frame fresh expected verdict)
     → eqb (view (groupsIn t) frame .sequence) 0 ≡ false → Whole (lookBy (decodeTable t) f) → State (lookBy (decodeTable t) f .run .state)
-    → Does (groupsIn t) (receive a time frame fresh expected verdict) (lookBy (decodeTable t) f) (frameStep (decodeTable t) f a time frame fresh expected verdict)
+    → Does (groupsIn t) (limitIn t) (receive a time frame fresh expected verdict) (lookBy (decodeTable t) f) (frameStep (decodeTable t) f a time frame fresh expected verdict)
 unfolding frameStep
 frame-kind t a time frame fresh expected verdict f S w W z =
-    frame-does (termsOf (decodeTable t) f) (brings a time fresh expected (verdict is 1)) (receive a time frame fresh expected verdict) (lookBy (decodeTable t) f)
-    (message (groupsIn t) frame) refl refl refl W z (heard (groupsIn t) a time frame fresh expected verdict w) (λ e. S)
+    frame-does (termsOf (decodeTable t) f) (brings a (clockOf (decodeTable t .header) time) fresh expected (verdict is 1)) (receive a time frame fresh expected verdict)
+    (lookBy (decodeTable t) f) (message (groupsIn t) frame) refl refl W z (heard (groupsIn t) a time frame fresh expected verdict w) (λ e. S)
 
 -- a clock call brings no frame
 no-frame : (gs : List ℕ) (time : ℕ) → Heard gs (expire time) silence false
 no-frame gs time = record { commit = λ z l. absurd (clash l refl); confirm = λ d z v. absurd (clash v refl) }
 
 clock-kind : (t : List ℕ) (time k : ℕ) → Whole (lookBy (decodeTable t) (found.At k)) → State (lookBy (decodeTable t) (found.At k) .run .state)
-    → Does (groupsIn t) (expire time) (lookBy (decodeTable t) (found.At k)) (clockStep (decodeTable t) k time)
+    → Does (groupsIn t) (limitIn t) (expire time) (lookBy (decodeTable t) (found.At k)) (clockStep (decodeTable t) k time)
 unfolding clockStep lookBy
 clock-kind t time k W z =
-    clock-does (termsOf (decodeTable t) (found.At k)) (brings (slot (decodeTable t) k .address) time [] noToken false) (expire time) (slot (decodeTable t) k) refl refl refl W z
-    (no-frame (groupsIn t) time)
+    clock-does (termsOf (decodeTable t) (found.At k)) (brings (slot (decodeTable t) k .address) (clockOf (decodeTable t .header) time) [] noToken false) (expire time)
+    (slot (decodeTable t) k) refl refl W z (no-frame (groupsIn t) time)
 
 -- ---- how a call ends
 
@@ -211,6 +213,7 @@ pub record Made (t u : List ℕ) (a : List ℕ) (o : Step) (r : Answer) : Type 0
   pub sound : sound u ≡ true
   pub bytes : Bytes u
   pub groups : groupsIn u ≡ groupsIn t
+  pub limit : limitIn u ≡ limitIn t
   pub here : look (decodeTable u) a ≡ o .peer
   pub elsewhere : (b : List ℕ) → sameAddress a b ≡ false → look (decodeTable u) b ≡ look (decodeTable t) b
 
@@ -223,10 +226,13 @@ pub data Ends (t : List ℕ) : Call → Type 0 where
       → Ends t (initialize buffer own settings)
   frees : {a : List ℕ} → done t (kill a) ≡ true → Made t (tableAfter t (kill a)) a killStep (left t (kill a) .answer) → Ends t (kill a)
   steps : {c : Call} (a : List ℕ) (o : Step) → Told a c → done t c ≡ true → Made t (tableAfter t c) a o (left t c .answer)
-      → (Whole (look (decodeTable t) a) → State (look (decodeTable t) a .run .state) → Does (groupsIn t) c (look (decodeTable t) a) o) → Ends t c
+      → (Whole (look (decodeTable t) a) → State (look (decodeTable t) a .run .state) → Does (groupsIn t) (limitIn t) c (look (decodeTable t) a) o) → Ends t c
 
-groups-kept : (h k : Header) (m n : ℕ) → k ≡ counted h m n → groupsOf k ≡ groupsOf h
-groups-kept h k m n e = ap groupsOf e
+groups-kept : (h k : Header) (n : Counts) → k ≡ counted h n → groupsOf k ≡ groupsOf h
+groups-kept h k n e = ap groupsOf e
+
+limit-kept : (h k : Header) (n : Counts) → k ≡ counted h n → limitOf (k .settings .limit) ≡ limitOf (h .settings .limit)
+limit-kept h k n e = ap (λ (x : Header). limitOf (x .settings .limit)) e
 
 made-of : (t a : List ℕ) (o : Step) (l : Left) → sound t ≡ true → Finished t a o l → Made t (l .table) a o (l .answer)
 made-of t a o l s F = record {
@@ -234,7 +240,8 @@ made-of t a o l s F = record {
   was = s;
   sound = F .sound;
   bytes = F .bytes;
-  groups = groups-kept (decodeTable t .header) (decodeTable (l .table) .header) _ _ (F .header);
+  groups = groups-kept (decodeTable t .header) (decodeTable (l .table) .header) _ (F .header);
+  limit = limit-kept (decodeTable t .header) (decodeTable (l .table) .header) _ (F .header);
   here = F .here;
   elsewhere = F .elsewhere;
 }
@@ -281,9 +288,9 @@ pub fresh-look : (T : Table) (a : List ℕ) → ((k : ℕ) → slot T k ≡ noPe
 unfolding look
 fresh-look T a e = fresh-look-by T (finds T a) e
 
-nothing-done : (t : List ℕ) (time : ℕ) → (isDone (expiresBy found.Nothing t time .answer .outcome) ≡ false) × (expiresBy found.Nothing t time .table ≡ t)
-unfolding expiresBy noneDue
-nothing-done t time = (refl, refl)
+nothing-done : (t : List ℕ) (time : ℕ) → Bytes t → sound t ≡ true → (isDone (expiresBy found.Nothing t time .answer .outcome) ≡ false) × (expiresBy found.Nothing t time .table ≡ t)
+unfolding expiresBy ends noneDue
+nothing-done t time b s = (refl, unchanged-ends noneDue t b s)
 
 -- the clock call, by what it comes to
 module _ (t : List ℕ) (time : ℕ) (l : Left) (q : expires t time ≡ l) where
@@ -292,7 +299,7 @@ module _ (t : List ℕ) (time : ℕ) (l : Left) (q : expires t time ≡ l) where
   clock-idles d e = idles {c = expire time} (ap (λ (x : Left). isDone (x .answer .outcome)) q ∙ d) (ap (λ (x : Left). x .table) q ∙ e)
 
   clock-steps : (a : List ℕ) (o : Step) → isDone (l .answer .outcome) ≡ true → Made t (l .table) a o (l .answer)
-      → (Whole (look (decodeTable t) a) → State (look (decodeTable t) a .run .state) → Does (groupsIn t) (expire time) (look (decodeTable t) a) o) → Ends t (expire time)
+      → (Whole (look (decodeTable t) a) → State (look (decodeTable t) a .run .state) → Does (groupsIn t) (limitIn t) (expire time) (look (decodeTable t) a) o) → Ends t (expire time)
   unfolding done tableAfter
   clock-steps a o d m k =
       steps {c = expire time} a o a-clock (ap (λ (x : Left). isDone (x .answer .outcome)) q ∙ d) (subst (λ (x : Left). Made t (x .table) a o (x .answer)) (sym q) m) k
@@ -319,11 +326,16 @@ two-below s at b h =
 settings-fit : (s own : List ℕ) → Octets 16 s → Octets 6 own → FitSettings (settingsOf s) own
 unfolding settingsOf
 settings-fit s own hs ho = record {
-  count = one-below s 0 (hs .bytes) (omega (arith, hs .many));
-  groups = refl;
-  group0 = two-below s 2 (hs .bytes) (omega (arith, hs .many));
-  group1 = two-below s 4 (hs .bytes) (omega (arith, hs .many));
-  threshold = two-below s 8 (hs .bytes) (omega (arith, hs .many));
+  settings = record {
+    count = one-below s 0 (hs .bytes) (omega (arith, hs .many));
+    groups = refl;
+    group0 = two-below s 2 (hs .bytes) (omega (arith, hs .many));
+    group1 = two-below s 4 (hs .bytes) (omega (arith, hs .many));
+    group2 = lit< tt;
+    threshold = two-below s 8 (hs .bytes) (omega (arith, hs .many));
+    period = lit< tt;
+    limit = lit< tt;
+  };
   six = ho .many;
   bytes = ho .bytes;
 }
@@ -336,17 +348,21 @@ write-ends t w = idles {c = write w} refl refl
 module _ (L : Lawful) (t : List ℕ) (b : Bytes t) where
   -- a set up: refused for a reserved octet, for what the settings say, own address or length, or done
   initialize-ends : (buffer own settings : List ℕ) → Bytes buffer → Octets 6 own → Octets 16 settings → Ends t (initialize buffer own settings)
-  unfolding done tableAfter initializesFrom initializes
+  unfolding done tableAfter initializesFrom initializes ends
   initialize-ends buffer own settings bb ho hs = go (reservedZero settings) (initialOk (settingsOf settings) own (length buffer)) refl refl
     where
       fit : FitSettings (settingsOf settings) own
       fit = settings-fit settings own hs ho
 
+      made : initialOk (settingsOf settings) own (length buffer) ≡ true
+          → encodeTable (recounted (initialTable (settingsOf settings) own (slotsFor (length buffer)))) ≡ initial (settingsOf settings) own buffer
+      made e = rw e at (set-up-leaves buffer own (settingsOf settings))
+
       go : (z x : Bool) → reservedZero settings ≡ z → initialOk (settingsOf settings) own (length buffer) ≡ x → Ends t (initialize buffer own settings)
       go true true z e = sets-up {buffer = buffer} {own = own} {settings = settings} (rw (z, e) (quiet-done own)) (rw (z, e) (quiet-frames own))
-          (rw (z, e, quiet-done own) (bytes-initial (settingsOf settings) own buffer fit bb))
-          (λ a. rw (z, e, quiet-done own) (fresh-look _ a (λ k. ap (λ (T : Table). slot T k) (initial-decoded (settingsOf settings) own buffer fit e)
-          ∙ initial-slot (settingsOf settings) own (slotsFor (length buffer)) k)))
+          (rw (z, e, quiet-done own) (subst Bytes (sym (made e)) (bytes-initial (settingsOf settings) own buffer fit bb)))
+          (λ a. rw (z, e, quiet-done own) (fresh-look _ a (λ k. ap (λ (u : List ℕ). slot (decodeTable u) k) (made e)
+          ∙ ap (λ (T : Table). slot T k) (initial-decoded (settingsOf settings) own buffer fit e) ∙ initial-slot (settingsOf settings) own (slotsFor (length buffer)) k)))
       go true false z e = idles {c = initialize buffer own settings} (rw (z, e) (refused-done why.Settings)) (rw (z, e, refused-done why.Settings))
       go false x z e = idles {c = initialize buffer own settings} (rw z (refused-done why.Settings)) (rw (z, refused-done why.Settings))
 
@@ -362,7 +378,7 @@ module _ (L : Lawful) (t : List ℕ) (b : Bytes t) where
           let G = L .initiate-good t a time fresh f b (ha .many) (ha .bytes) ht hf e in
           let s = entered-sound t a f (G .came) in
           steps a (startStep (decodeTable t) f a time fresh) a-start (said-done _ a _ (F .answer)) (made-of t a _ _ s F)
-          (λ W z. subst (λ (p : Peer). Does (groupsIn t) (initiate a time fresh) p (startStep (decodeTable t) f a time fresh)) (entered-look t a f (G .came)) (start-kind t a time fresh f s e (turn-done (startTurn (entry t a) t fresh) (λ x. startStep (decodeTable t) x a time fresh) t a f e (F .answer))))
+          (λ W z. subst (λ (p : Peer). Does (groupsIn t) (limitIn t) (initiate a time fresh) p (startStep (decodeTable t) f a time fresh)) (entered-look t a f (G .came)) (start-kind t a time fresh f s e (turn-done (startTurn (entry t a) t fresh) (λ x. startStep (decodeTable t) x a time fresh) t a f e (F .answer))))
 
   kill-ends : (a : List ℕ) → Octets 6 a → Ends t (kill a)
   unfolding done tableAfter kills
@@ -389,7 +405,7 @@ module _ (L : Lawful) (t : List ℕ) (b : Bytes t) where
           let w = frame-admits (entry t a) t frame fresh expected verdict f e in
           let S = all-stocked t s (receive a time frame fresh expected verdict) (w .0) in
           steps a (frameStep (decodeTable t) f a time frame fresh expected verdict) a-frame (said-done _ a _ (F .answer)) (made-of t a _ _ s F)
-          (λ W z. subst (λ (p : Peer). Does (groupsIn t) (receive a time frame fresh expected verdict) p (frameStep (decodeTable t) f a time frame fresh expected verdict)) q
+          (λ W z. subst (λ (p : Peer). Does (groupsIn t) (limitIn t) (receive a time frame fresh expected verdict) p (frameStep (decodeTable t) f a time frame fresh expected verdict)) q
           (frame-kind t a time frame fresh expected verdict f S (w .1) (subst Whole (sym q) W) (subst (λ (p : Peer). State (p .run .state)) (sym q) z)))
 
   due-ends : (time k : ℕ) → time < 2 ^ 32 → sound t ≡ true → dueSlot (decodeTable t) time ≡ found.At k → Ends t (expire time)
@@ -413,14 +429,14 @@ module _ (L : Lawful) (t : List ℕ) (b : Bytes t) where
       go (inl q) = let r = refused-not why.Full t _ q in clock-idles t time _ (expires-due t time (found.At k) s e) (r .0) (r .1)
       go (inr F) =
           clock-steps t time _ (expires-due t time (found.At k) s e) (slot (decodeTable t) k .address) (clockStep (decodeTable t) k time)
-          (said-done _ _ _ (F .answer)) (made-of t _ _ _ s F) (λ W z. subst (λ (p : Peer). Does (groupsIn t) (expire time) p (clockStep (decodeTable t) k time)) at
+          (said-done _ _ _ (F .answer)) (made-of t _ _ _ s F) (λ W z. subst (λ (p : Peer). Does (groupsIn t) (limitIn t) (expire time) p (clockStep (decodeTable t) k time)) at
           (clock-kind t time k (subst Whole (sym at) W) (subst (λ (p : Peer). State (p .run .state)) (sym at) z)))
 
   expire-ends : (time : ℕ) → time < 2 ^ 32 → Ends t (expire time)
   expire-ends time ht = go (sound t) refl
     where
       on : sound t ≡ true → (d : Found) → dueSlot (decodeTable t) time ≡ d → Ends t (expire time)
-      on s found.Nothing e = let r = nothing-done t time in clock-idles t time _ (expires-due t time found.Nothing s e) (r .0) (r .1)
+      on s found.Nothing e = let r = nothing-done t time b s in clock-idles t time _ (expires-due t time found.Nothing s e) (r .0) (r .1)
       on s (found.At k) e = due-ends time k ht s e
 
       go : (x : Bool) → sound t ≡ x → Ends t (expire time)

@@ -1,24 +1,29 @@
--- After every list of calls each printer's record of each address says what its story says, and no run has more than six repeats: no premise is asked.
+-- After every list of calls each printer's record of each address says what its story says, and no run has more repeats than its limit + 1: no premise is
+-- asked.
 use mathlib.Core.Path.{_≡_, refl, sym, ap, _∙_, subst}
-use mathlib.Core.Bool.{Bool, true, false, not, _&&_}
+use mathlib.Core.Bool.{Bool, true, false, not, _&&_, _||_}
 use mathlib.Core.List.{List, []}
 use Prim.Native.Nat.{ℕ}
 use lib.Dec.{eqb, lit<}
 use borrow.Author.Tests.{eqb-true}
 use Rattle.protocol.specs.Model.{Side, A, B}
-use Rattle.protocol.specs.Repeats.{none}
+use Rattle.protocol.specs.Repeats.{none, run, Limited}
+use Rattle.protocol.proofs.Repeats.{more-limited}
 use Rattle.octets.specs.Scan.{if_then_else_, firstBelow}
 use Rattle.octets.specs.Octets.{Bytes, num, sameAddress}
+use Rattle.octets.proofs.Scan.{clash}
 use Rattle.record.specs.declared.Peer.{Peer}
-use Rattle.record.specs.Layout.{noPeer}
+use Rattle.record.specs.Layout.{noPeer, factoryLimit}
 use Rattle.table.specs.Table.{Table, decodeTable, peersOf, slot, slots, inUse, belongs, finds, look, lookBy}
 use Rattle.rules.specs.Book.{Step}
 use Rattle.answers.specs.declared.Answer.{Answer}
 use Rattle.answers.specs.Answers.{said}
 use Rattle.calls.specs.Calls.{killStep}
+use Rattle.call_laws.proofs.Good.{factory-limit}
 use Rattle.agreement.specs.Calls.{Call, kill, Entry, AllHanded, none, more, left, done, isInitialize, tableAfter, mine, tableOf}
-use Rattle.agreement.specs.Story.{Story, nothingYet, answered, isAbout, toldBy, storyAfter, storyOf, groupsIn}
+use Rattle.agreement.specs.Story.{Story, nothingYet, isStart, sends, usesAfresh, formsPair, told, answered, clears, cleared, isAbout, toldBy, storyAfter, storyOf, groupsIn, limitIn}
 use Rattle.agreement.specs.Statement.{no-link}
+use Rattle.agreement.proofs.Rules.{either}
 use Rattle.agreement.proofs.Shows.{Shows, no-run, shows-state, shows-whole, shows-kept, shows-cleared}
 use Rattle.agreement.proofs.Engine.{Lawful, Told, a-start, a-frame, a-clock, Ends, idles, sets-up, frees, steps, call-ends, fresh-look}
 
@@ -43,7 +48,7 @@ about-told t a a-start = refl
 about-told t a a-frame = refl
 about-told t a a-clock = refl
 
-pub told-by : (t : List ℕ) {c : Call} {x : List ℕ} (s : Story) → Told x c → toldBy t c s ≡ answered (groupsIn t) c (left t c .answer) s
+pub told-by : (t : List ℕ) {c : Call} {x : List ℕ} (s : Story) → Told x c → toldBy t c s ≡ answered (groupsIn t) (limitIn t) c (left t c .answer) s
 told-by t s a-start = refl
 told-by t s a-frame = refl
 told-by t s a-clock = refl
@@ -77,8 +82,8 @@ killed = refl
 
 -- ---- one call
 
-shows-at : {p q : Peer} {r s : Story} → q ≡ p → s ≡ r → Shows p r → Shows q s
-shows-at {p} {q} {r} {s} e f h = subst (Shows q) (sym f) (subst (λ (x : Peer). Shows x r) (sym e) h)
+shows-at : {n m : ℕ} {p q : Peer} {r s : Story} → m ≡ n → q ≡ p → s ≡ r → Shows n p r → Shows m q s
+shows-at {n} {m} {p} {q} {r} {s} i e f h = subst (λ (k : ℕ). Shows k q s) (sym i) (subst (Shows n q) (sym f) (subst (λ (x : Peer). Shows n x r) (sym e) h))
 
 module _ (t : List ℕ) where
   bytes-after : {c : Call} → Bytes t → Ends t c → Bytes (tableAfter t c)
@@ -87,25 +92,49 @@ module _ (t : List ℕ) where
   bytes-after b (frees d M) = M .bytes
   bytes-after b (steps a o k d M D) = M .bytes
 
-  shows-after : {c : Call} (b : List ℕ) (s : Story) → Ends t c → Shows (look (decodeTable t) b) s → Shows (look (decodeTable (tableAfter t c)) b) (storyAfter t c b s)
-  shows-after {c} b s (idles d e) h = shows-at (ap (λ (u : List ℕ). look (decodeTable u) b) e) (idle-apart t c b s d) h
-  shows-after b s (sets-up d f y n) h = shows-at (n b) (story-about t _ b s d) (shows-cleared s (h .six))
+  shows-after : {c : Call} (b : List ℕ) (s : Story) → Ends t c → Shows (limitIn t) (look (decodeTable t) b) s
+      → Shows (limitIn (tableAfter t c)) (look (decodeTable (tableAfter t c)) b) (storyAfter t c b s)
+  shows-after {c} b s (idles d e) h = shows-at (ap (λ (u : List ℕ). limitIn u) e) (ap (λ (u : List ℕ). look (decodeTable u) b) e) (idle-apart t c b s d) h
+  shows-after b s (sets-up d f y n) h = shows-at refl (n b) (story-about t _ b s d) (shows-cleared _ s (h .repeats))
   shows-after b s (frees {a} d M) h = go (sameAddress a b) refl
     where
-      go : (x : Bool) → sameAddress a b ≡ x → Shows (look (decodeTable (tableAfter t (kill a))) b) (storyAfter t (kill a) b s)
+      go : (x : Bool) → sameAddress a b ≡ x → Shows (limitIn (tableAfter t (kill a))) (look (decodeTable (tableAfter t (kill a))) b) (storyAfter t (kill a) b s)
       go true e =
-          shows-at (look-same-address _ a b e ∙ M .here ∙ killed) (story-about t (kill a) b s (kill-about t a a b killStep d (M .answer) ∙ e)) (shows-cleared s (h .six))
-      go false e = shows-at (M .elsewhere b e) (story-apart t (kill a) b s (kill-about t a a b killStep d (M .answer) ∙ e)) h
+          shows-at refl (look-same-address _ a b e ∙ M .here ∙ killed) (story-about t (kill a) b s (kill-about t a a b killStep d (M .answer) ∙ e)) (shows-cleared _ s (h .repeats))
+      go false e = shows-at (M .limit) (M .elsewhere b e) (story-apart t (kill a) b s (kill-about t a a b killStep d (M .answer) ∙ e)) h
   shows-after {c} b s (steps a o k d M D) h = go (sameAddress a b) refl
     where
-      go : (x : Bool) → sameAddress a b ≡ x → Shows (look (decodeTable (tableAfter t c)) b) (storyAfter t c b s)
+      go : (x : Bool) → sameAddress a b ≡ x → Shows (limitIn (tableAfter t c)) (look (decodeTable (tableAfter t c)) b) (storyAfter t c b s)
       go true e =
           let p = look-same-address (decodeTable t) a b e in
-          let g = subst (λ (q : Peer). Shows q s) p h in
-          shows-at (look-same-address _ a b e ∙ M .here)
-          (story-about t c b s (step-about t a b o k d (M .answer) ∙ e) ∙ told-by t s k ∙ ap (λ (r : Answer). answered (groupsIn t) c r s) (M .answer))
-          (shows-kept (groupsIn t) c a (look (decodeTable t) a) o s (D (shows-whole _ s g) (shows-state _ s g)) g)
-      go false e = shows-at (M .elsewhere b e) (story-apart t c b s (step-about t a b o k d (M .answer) ∙ e)) h
+          let g = subst (λ (q : Peer). Shows (limitIn t) q s) p h in
+          shows-at (M .limit) (look-same-address _ a b e ∙ M .here)
+          (story-about t c b s (step-about t a b o k d (M .answer) ∙ e) ∙ told-by t s k ∙ ap (λ (r : Answer). answered (groupsIn t) (limitIn t) c r s) (M .answer))
+          (shows-kept (groupsIn t) (limitIn t) c a (look (decodeTable t) a) o s (D (shows-whole _ _ s g) (shows-state _ _ s g)) g)
+      go false e = shows-at (M .limit) (M .elsewhere b e) (story-apart t c b s (step-about t a b o k d (M .answer) ∙ e)) h
+
+-- a run that begins has the limit of the call's table, and every other keeps its own
+answered-limited : (n : ℕ) (gs : List ℕ) (limit : ℕ) (c : Call) (r : Answer) (s : Story) → limit ≡ n → Limited n (s .runs)
+    → Limited n (answered gs limit c r s .runs)
+unfolding told
+answered-limited n gs limit c r s e h =
+    either (Limited n) (isStart c || (formsPair c r && not (s .running))) (λ b. run e h)
+    (λ b. either (Limited n) (s .running && (sends (r .frames) && (not (usesAfresh r) && not (formsPair c r)))) (λ m. more-limited n (s .stands) (s .runs) h) (λ m. h))
+
+story-limited : (n : ℕ) (t : List ℕ) (c : Call) (b : List ℕ) (s : Story) → (clears c ≡ false → limitIn t ≡ n) → Limited n (s .runs)
+    → Limited n (storyAfter t c b s .runs)
+unfolding storyAfter cleared
+story-limited n t c b s e h =
+    either (λ (x : Story). Limited n (x .runs)) (isAbout t c b)
+    (λ i. either (λ (x : Story). Limited n (x .runs)) (clears c) (λ q. h) (λ q. answered-limited n (groupsIn t) (limitIn t) c (left t c .answer) s (e q) h))
+    (λ i. h)
+
+-- a step is made in a sound table alone, whose limit is the factory's
+limits-after : (t : List ℕ) {c : Call} (b : List ℕ) (s : Story) → Ends t c → Limited factoryLimit (s .runs) → Limited factoryLimit (storyAfter t c b s .runs)
+limits-after t {c} b s (idles d e) h = rw (idle-apart t c b s d) h
+limits-after t b s (sets-up d f y n) h = story-limited factoryLimit t _ b s (λ q. absurd (clash refl q)) h
+limits-after t b s (frees d M) h = story-limited factoryLimit t _ b s (λ q. factory-limit t (M .was)) h
+limits-after t b s (steps a o k d M D) h = story-limited factoryLimit t _ b s (λ q. factory-limit t (M .was)) h
 
 -- ---- every list of calls
 
@@ -127,12 +156,12 @@ pub empty-slot : (k : ℕ) → slot (decodeTable []) k ≡ noPeer
 unfolding slot decodeTable peersOf
 empty-slot k = refl
 
-nothing-shown : Shows noPeer nothingYet
+nothing-shown : (limit : ℕ) → Shows limit noPeer nothingYet
 unfolding noPeer
-nothing-shown = record { run = no-run refl; link = no-link; six = none }
+nothing-shown limit = record { run = no-run refl; link = no-link; repeats = none }
 
-shown-by : (a : List ℕ) (Y Z : Side) (t u : List ℕ) {r s : Story} → Shows (look (decodeTable t) a) r → Shows (look (decodeTable u) a) s
-    → Shows (look (decodeTable (mine Y Z u t)) a) (mine Y Z s r)
+shown-by : (a : List ℕ) (Y Z : Side) (t u : List ℕ) {r s : Story} → Shows (limitIn t) (look (decodeTable t) a) r → Shows (limitIn u) (look (decodeTable u) a) s
+    → Shows (limitIn (mine Y Z u t)) (look (decodeTable (mine Y Z u t)) a) (mine Y Z s r)
 shown-by a A A t u p q = q
 shown-by a A B t u p q = p
 shown-by a B A t u p q = p
@@ -145,9 +174,17 @@ module _ (L : Lawful) where
   bytes-of (more {e = e} {h = h} k H) X =
       by-side Bytes (e .side) X (λ q. bytes-after (tableOf h X) (bytes-of H X) (call-ends L (tableOf h X) (bytes-of H X) (k .call))) (bytes-of H X)
 
-  pub shown : {h : List Entry} → AllHanded h → (X : Side) (a : List ℕ) → Shows (look (decodeTable (tableOf h X)) a) (storyOf h X a)
+  pub shown : {h : List Entry} → AllHanded h → (X : Side) (a : List ℕ) → Shows (limitIn (tableOf h X)) (look (decodeTable (tableOf h X)) a) (storyOf h X a)
   unfolding tableOf storyOf
-  shown none X a = shows-at (fresh-look (decodeTable []) a empty-slot) refl nothing-shown
+  shown none X a = shows-at refl (fresh-look (decodeTable []) a empty-slot) refl (nothing-shown _)
   shown (more {e = e} {h = h} k H) X a =
       shown-by a (e .side) X (tableOf h X) _ (shown H X a)
       (shows-after (tableOf h X) a (storyOf h X a) (call-ends L (tableOf h X) (bytes-of H X) (k .call)) (shown H X a))
+
+  -- every run's limit is the factory's
+  pub limits : {h : List Entry} → AllHanded h → (X : Side) (a : List ℕ) → Limited factoryLimit (storyOf h X a .runs)
+  unfolding storyOf
+  limits none X a = none
+  limits (more {e = e} {h = h} k H) X a =
+      by-side (λ (s : Story). Limited factoryLimit (s .runs)) (e .side) X
+      (λ q. limits-after (tableOf h X) a (storyOf h X a) (call-ends L (tableOf h X) (bytes-of H X) (k .call)) (limits H X a)) (limits H X a)

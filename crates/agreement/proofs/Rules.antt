@@ -2,7 +2,7 @@
 use mathlib.Core.Path.{_≡_, refl}
 use mathlib.Core.Logic.{_⊎_}
 use mathlib.Core.Bool.{Bool, true, false}
-use mathlib.Core.List.{List, []}
+use mathlib.Core.List.{List}
 use Prim.Native.Nat.{ℕ, _+_, _≤_}
 use lib.Dec.{eqb}
 use lib.ListN.{take}
@@ -83,47 +83,47 @@ pub data Verified (gs : List ℕ) : Call → Type 0 where
   verified : {address : List ℕ} {time : ℕ} {frame fresh expected : List ℕ} {n : ℕ}
       → readBody gs frame ≡ body.Confirm n → Verified gs (receive address time frame fresh expected 1)
 
-pub data Does (gs : List ℕ) (c : Call) (p : Peer) : Step → Type 0 where
+pub data Does (gs : List ℕ) (limit : ℕ) (c : Call) (p : Peer) : Step → Type 0 where
   -- nothing is sent, used or told, and the record says what it said
   quiet : {q : Peer} {d : Bool} → isStart c ≡ false → SameRun p q → SameLink p q
-      → Does gs c p (record { peer = q; event = event.None; frames = frames.None; afresh = 0; refused = d })
+      → Does gs limit c p (record { peer = q; event = event.None; frames = frames.None; afresh = 0; refused = d })
   -- a 76 or 77 without a run
   informs : {x g : ℕ} → isStart c ≡ false → p .run .state ≡ 0 → eqb x 0 ≡ false
-      → Does gs c p (record { peer = p; event = event.None; frames = frames.One (record { sequence = 1; status = x; group = g; counter = 0 }); afresh = 0; refused = false })
+      → Does gs limit c p (record { peer = p; event = event.None; frames = frames.One (record { sequence = 1; status = x; group = g; counter = 0 }); afresh = 0; refused = false })
   -- a start
   starts : {q : Peer} {g : ℕ} {own : List ℕ} → isStart c ≡ true → isFrame c ≡ false → p .run .state ≡ 0 → Afresh gs c g own → Committed q 0 g own → q .link ≡ p .link
-      → Does gs c p (record { peer = q; event = event.None; frames = frames.One (commitFrame g); afresh = g; refused = false })
+      → Does gs limit c p (record { peer = q; event = event.None; frames = frames.One (commitFrame g); afresh = g; refused = false })
   -- a switch of group
   switches : {q : Peer} {g : ℕ} {own : List ℕ} → isStart c ≡ false → p .run .state ≡ 1 → Afresh gs c g own → Committed q (p .run .sync) g own → q .link ≡ p .link
-      → Does gs c p (record { peer = q; event = event.None; frames = frames.One (commitFrame g); afresh = g; refused = false })
+      → Does gs limit c p (record { peer = q; event = event.None; frames = frames.One (commitFrame g); afresh = g; refused = false })
   -- a pair formed with a fresh commit, or with the run's own
   forms-fresh : {q : Peer} {g : ℕ} {own theirs : List ℕ} → isStart c ≡ false → (p .run .state ≡ 0) ⊎ (p .run .state ≡ 1)
       → Afresh gs c g own → Hears gs c g theirs → Confirmed q 0 1 g own theirs → q .link ≡ supersede (p .link)
-      → Does gs c p (record { peer = q; event = event.None; frames = frames.Two (commitFrame g) (confirmFrame 1); afresh = g; refused = false })
+      → Does gs limit c p (record { peer = q; event = event.None; frames = frames.Two (commitFrame g) (confirmFrame 1); afresh = g; refused = false })
   forms-own : {q : Peer} {theirs : List ℕ} → isStart c ≡ false → p .run .state ≡ 1
       → Hears gs c (p .run .group) theirs → Confirmed q 0 1 (p .run .group) (p .run .own) theirs → q .link ≡ supersede (p .link)
-      → Does gs c p (record { peer = q; event = event.None; frames = frames.One (confirmFrame 1); afresh = 0; refused = false })
+      → Does gs limit c p (record { peer = q; event = event.None; frames = frames.One (confirmFrame 1); afresh = 0; refused = false })
   -- a repeat in Committed, the reply to a 76 among them
-  repeats : {q : Peer} {x g : ℕ} → isStart c ≡ false → p .run .state ≡ 1 → p .run .sync ≤ 5
+  repeats : {q : Peer} {x g : ℕ} → isStart c ≡ false → p .run .state ≡ 1 → p .run .sync ≤ limit
       → Committed q (p .run .sync + 1) (p .run .group) (p .run .own) → q .link ≡ p .link
-      → Does gs c p (record { peer = q; event = event.None; frames = frames.One (record { sequence = 1; status = x; group = g; counter = 0 }); afresh = 0; refused = false })
+      → Does gs limit c p (record { peer = q; event = event.None; frames = frames.One (record { sequence = 1; status = x; group = g; counter = 0 }); afresh = 0; refused = false })
   -- a repeat in Confirmed, of Commit and Confirm or of the Confirm
-  repeats-both : {q : Peer} {g : ℕ} → isStart c ≡ false → p .run .state ≡ 2 → p .run .sync ≤ 5
+  repeats-both : {q : Peer} {g : ℕ} → isStart c ≡ false → p .run .state ≡ 2 → p .run .sync ≤ limit
       → Confirmed q (p .run .sync + 1) (p .run .sc + 1) (p .run .group) (p .run .own) (p .run .peer) → q .link ≡ p .link
-      → Does gs c p (record { peer = q; event = event.None; frames = frames.Two (commitFrame g) (confirmFrame (p .run .sc + 1)); afresh = 0; refused = false })
-  repeats-confirm : {q : Peer} → isStart c ≡ false → p .run .state ≡ 2 → p .run .sync ≤ 5
+      → Does gs limit c p (record { peer = q; event = event.None; frames = frames.Two (commitFrame g) (confirmFrame (p .run .sc + 1)); afresh = 0; refused = false })
+  repeats-confirm : {q : Peer} → isStart c ≡ false → p .run .state ≡ 2 → p .run .sync ≤ limit
       → Confirmed q (p .run .sync + 1) (p .run .sc + 1) (p .run .group) (p .run .own) (p .run .peer) → q .link ≡ p .link
-      → Does gs c p (record { peer = q; event = event.None; frames = frames.One (confirmFrame (p .run .sc + 1)); afresh = 0; refused = false })
+      → Does gs limit c p (record { peer = q; event = event.None; frames = frames.One (confirmFrame (p .run .sc + 1)); afresh = 0; refused = false })
   -- the run becomes the link
   accepts : {q : Peer} → isStart c ≡ false → p .run .state ≡ 2 → Verified gs c → q .run ≡ noRun
       → q .link .finished ≡ 1 → q .link .superseded ≡ 0 → q .link .group ≡ p .run .group → q .link .own ≡ p .run .own → q .link .peer ≡ p .run .peer
-      → Does gs c p (record { peer = q; event = event.Accepted; frames = frames.None; afresh = 0; refused = false })
+      → Does gs limit c p (record { peer = q; event = event.Accepted; frames = frames.None; afresh = 0; refused = false })
   -- the run ends
   abandons : {q : Peer} → isStart c ≡ false → q .run ≡ noRun → q .link ≡ p .link
-      → Does gs c p (record { peer = q; event = event.Abandoned; frames = frames.None; afresh = 0; refused = false })
+      → Does gs limit c p (record { peer = q; event = event.Abandoned; frames = frames.None; afresh = 0; refused = false })
   -- the link ends
   ends : {q : Peer} → isStart c ≡ false → q .run ≡ p .run → q .link ≡ noLink
-      → Does gs c p (record { peer = q; event = event.Ended; frames = frames.None; afresh = 0; refused = false })
+      → Does gs limit c p (record { peer = q; event = event.Ended; frames = frames.None; afresh = 0; refused = false })
   -- a link's Confirm
   answers : {q : Peer} → isStart c ≡ false → p .run .state ≡ 0 → p .link .finished isnt 0 ≡ true → q .run ≡ p .run → SameLink p q
-      → Does gs c p (record { peer = q; event = event.None; frames = frames.One (confirmFrame 65535); afresh = 0; refused = false })
+      → Does gs limit c p (record { peer = q; event = event.None; frames = frames.One (confirmFrame 65535); afresh = 0; refused = false })

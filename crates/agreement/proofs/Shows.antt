@@ -2,7 +2,7 @@
 use mathlib.Core.Path.{_≡_, refl, sym, ap, _∙_, subst}
 use mathlib.Core.Logic.{inl, inr}
 use mathlib.Core.Bool.{Bool, true, false}
-use mathlib.Core.List.{List, [], _∷_}
+use mathlib.Core.List.{List, _∷_}
 use Prim.Native.Nat.{ℕ, suc, _+_, _≤_}
 use native.Mathlib.Omega.{arith}
 use native.Mathlib.Numerals.{add-one}
@@ -10,7 +10,7 @@ use lib.Dec.{eqb}
 use lib.ListN.{take}
 use borrow.Author.Tests.{eqb-true, ne-eqb}
 use Rattle.protocol.specs.Model.{Commit}
-use Rattle.protocol.specs.Repeats.{Tally, latest, AtMost, run}
+use Rattle.protocol.specs.Repeats.{Tally, latest, AtMost}
 use Rattle.protocol.proofs.Repeats.{begun-at-most, more-at-most}
 use Rattle.octets.proofs.Scan.{clash}
 use Rattle.groups.specs.Groups.{stored, commitLength}
@@ -47,54 +47,55 @@ Padded g c = stored (take (commitLength g) c) ≡ c
 
 -- ---- the run
 
-pub data RunShows (r : Run) : Bool → Bool → Commit → Pair → List Tally → Type 0 where
-  no-run : {f : Commit} {p : Pair} {ks : List Tally} → r ≡ noRun → RunShows r false false f p ks
+-- the run of a record in a table of this Sync limit, which is its own while it lasts
+pub data RunShows (limit : ℕ) (r : Run) : Bool → Bool → Commit → Pair → List Tally → Type 0 where
+  no-run : {f : Commit} {p : Pair} {ks : List Tally} → r ≡ noRun → RunShows limit r false false f p ks
   unpaired : {f : Commit} {p : Pair} {k : Tally} {ks : List Tally} → r .state ≡ 1 → f .group ≡ r .group → f .octets ≡ r .own → Padded (r .group) (r .own)
-      → k .before ≡ r .sync → k .after ≡ 0 → RunShows r true false f p (k ∷ ks)
+      → k .before ≡ r .sync → k .after ≡ 0 → k .limit ≡ limit → RunShows limit r true false f p (k ∷ ks)
   paired : {f : Commit} {p : Pair} {k : Tally} {ks : List Tally} → r .state ≡ 2 → p .group ≡ r .group → p .own ≡ r .own → p .peer ≡ r .peer → Padded (r .group) (r .own)
-      → r .sc ≡ r .sync + 1 → k .after ≡ r .sync → RunShows r true true f p (k ∷ ks)
+      → r .sc ≡ r .sync + 1 → k .after ≡ r .sync → k .limit ≡ limit → RunShows limit r true true f p (k ∷ ks)
 
-pub record Shows (p : Peer) (s : Story) : Type 0 where
-  pub run : RunShows (p .run) (s .running) (s .stands) (s .fresh) (s .pair) (s .runs)
+pub record Shows (limit : ℕ) (p : Peer) (s : Story) : Type 0 where
+  pub run : RunShows limit (p .run) (s .running) (s .stands) (s .fresh) (s .pair) (s .runs)
   pub link : Says (s .link) (p .link)
-  pub six : AtMost 6 (s .runs)
+  pub repeats : AtMost (s .runs)
 
-run-state : {r : Run} {b d : Bool} {f : Commit} {p : Pair} {ks : List Tally} → RunShows r b d f p ks → State (r .state)
+run-state : {limit : ℕ} {r : Run} {b d : Bool} {f : Commit} {p : Pair} {ks : List Tally} → RunShows limit r b d f p ks → State (r .state)
 run-state (no-run e) = idle (no-run-state _ e)
-run-state (unpaired e a b c d f) = committed e
-run-state (paired e a b c d f g) = confirmed e
+run-state (unpaired e a b c d f u) = committed e
+run-state (paired e a b c d f g u) = confirmed e
 
-run-free : {r : Run} {b d : Bool} {f : Commit} {p : Pair} {ks : List Tally} → RunShows r b d f p ks → r .state ≡ 0 → r ≡ noRun
+run-free : {limit : ℕ} {r : Run} {b d : Bool} {f : Commit} {p : Pair} {ks : List Tally} → RunShows limit r b d f p ks → r .state ≡ 0 → r ≡ noRun
 run-free (no-run e) z = e
-run-free (unpaired e a b c d f) z = zero-one z e
-run-free (paired e a b c d f g) z = zero-two z e
+run-free (unpaired e a b c d f u) z = zero-one z e
+run-free (paired e a b c d f g u) z = zero-two z e
 
 link-free : {l : story.Link} {k : Link} → Says l k → k .finished ≡ 0 → k ≡ noLink
 link-free no-link z = refl
 link-free (a-link f a b c d) z = zero-one z f
 
 -- Sync counts the run's repeats since it began or, once its pair stands, since then
-run-counts : {r : Run} {b d : Bool} {f : Commit} {p : Pair} {ks : List Tally} → RunShows r b d f p ks → b ≡ true → r .sync ≡ latest d ks
+run-counts : {limit : ℕ} {r : Run} {b d : Bool} {f : Commit} {p : Pair} {ks : List Tally} → RunShows limit r b d f p ks → b ≡ true → r .sync ≡ latest d ks
 run-counts (no-run e) q = absurd (clash q refl)
-run-counts (unpaired e a b c d z) q = sym d
-run-counts (paired e a b c d g z) q = sym z
+run-counts (unpaired e a b c d z u) q = sym d
+run-counts (paired e a b c d g z u) q = sym z
 
-pub shows-counts : (p : Peer) (s : Story) → Shows p s → s .running ≡ true → p .run .sync ≡ latest (s .stands) (s .runs)
-shows-counts p s S q = run-counts (S .run) q
+pub shows-counts : (limit : ℕ) (p : Peer) (s : Story) → Shows limit p s → s .running ≡ true → p .run .sync ≡ latest (s .stands) (s .runs)
+shows-counts limit p s S q = run-counts (S .run) q
 
-pub shows-state : (p : Peer) (s : Story) → Shows p s → State (p .run .state)
-shows-state p s S = run-state (S .run)
+pub shows-state : (limit : ℕ) (p : Peer) (s : Story) → Shows limit p s → State (p .run .state)
+shows-state limit p s S = run-state (S .run)
 
-pub shows-whole : (p : Peer) (s : Story) → Shows p s → Whole p
-shows-whole p s S = record { run = run-free (S .run); link = link-free (S .link) }
+pub shows-whole : (limit : ℕ) (p : Peer) (s : Story) → Shows limit p s → Whole p
+shows-whole limit p s S = record { run = run-free (S .run); link = link-free (S .link) }
 
 -- a run whose fields are the same shows the same
-same-shows : {p q : Peer} {b d : Bool} {f : Commit} {x : Pair} {ks : List Tally} → SameRun p q → RunShows (p .run) b d f x ks → RunShows (q .run) b d f x ks
+same-shows : {limit : ℕ} {p q : Peer} {b d : Bool} {f : Commit} {x : Pair} {ks : List Tally} → SameRun p q → RunShows limit (p .run) b d f x ks → RunShows limit (q .run) b d f x ks
 same-shows E (no-run e) = no-run (E .free e)
-same-shows {q = q} {f = f} E (unpaired e a b c d z) =
-    unpaired (E .state ∙ e) (a ∙ sym (E .group)) (b ∙ sym (E .own)) (rw (E .group, E .own) c) (d ∙ sym (E .sync)) z
-same-shows E (paired e a b c d g z) =
-    paired (E .state ∙ e) (a ∙ sym (E .group)) (b ∙ sym (E .own)) (c ∙ sym (E .peer)) (rw (E .group, E .own) d) (rw (E .sc, E .sync) g) (z ∙ sym (E .sync))
+same-shows {q = q} {f = f} E (unpaired e a b c d z u) =
+    unpaired (E .state ∙ e) (a ∙ sym (E .group)) (b ∙ sym (E .own)) (rw (E .group, E .own) c) (d ∙ sym (E .sync)) z u
+same-shows E (paired e a b c d g z u) =
+    paired (E .state ∙ e) (a ∙ sym (E .group)) (b ∙ sym (E .own)) (c ∙ sym (E .peer)) (rw (E .group, E .own) d) (rw (E .sc, E .sync) g) (z ∙ sym (E .sync)) u
 
 says-same : {l : story.Link} {k : Link} (j : Link) → Says l k → (k ≡ noLink → j ≡ noLink) → j .finished ≡ k .finished → j .superseded ≡ k .superseded
     → j .group ≡ k .group → j .own ≡ k .own → j .peer ≡ k .peer → Says l j
@@ -107,8 +108,8 @@ same-says {q = q} E h = says-same (q .link) h (E .free) (E .finished) (E .supers
 kept-says : {l : story.Link} {k j : Link} → j ≡ k → Says l k → Says l j
 kept-says {l} e h = subst (Says l) (sym e) h
 
-equal-shows : {r q : Run} {b d : Bool} {f : Commit} {x : Pair} {ks : List Tally} → q ≡ r → RunShows r b d f x ks → RunShows q b d f x ks
-equal-shows {b = b} {d = d} {f = f} {x = x} {ks = ks} e h = subst (λ (y : Run). RunShows y b d f x ks) (sym e) h
+equal-shows : {limit : ℕ} {r q : Run} {b d : Bool} {f : Commit} {x : Pair} {ks : List Tally} → q ≡ r → RunShows limit r b d f x ks → RunShows limit q b d f x ks
+equal-shows {limit = limit} {b = b} {d = d} {f = f} {x = x} {ks = ks} e h = subst (λ (y : Run). RunShows limit y b d f x ks) (sym e) h
 
 -- Sc is above 0 in Confirmed
 not-one : (n m : ℕ) → n ≡ m + 1 → eqb (n + 1) 1 ≡ false
@@ -116,69 +117,69 @@ not-one n m e = ne-eqb (n + 1) 1 (λ z. omega arith)
 
 -- ---- a step keeps the run's part
 
-module _ (gs : List ℕ) (c : Call) (a : List ℕ) (l : story.Link) where
+module _ (gs : List ℕ) (limit : ℕ) (c : Call) (a : List ℕ) (l : story.Link) where
   abbrev After : Step → Bool → Bool → Commit → Pair → List Tally → Story
-  After o b d f x ks = answered gs c (said o a) (record { fresh = f; pair = x; running = b; stands = d; link = l; runs = ks })
+  After o b d f x ks = answered gs limit c (said o a) (record { fresh = f; pair = x; running = b; stands = d; link = l; runs = ks })
 
   abbrev RunAfter : Step → Bool → Bool → Commit → Pair → List Tally → Type 0
   RunAfter o b d f x ks =
-      RunShows (o .peer .run) (After o b d f x ks .running) (After o b d f x ks .stands) (After o b d f x ks .fresh) (After o b d f x ks .pair) (After o b d f x ks .runs)
+      RunShows limit (o .peer .run) (After o b d f x ks .running) (After o b d f x ks .stands) (After o b d f x ks .fresh) (After o b d f x ks .pair) (After o b d f x ks .runs)
 
-  run-kept : {p : Peer} {o : Step} {b d : Bool} {f : Commit} {x : Pair} {ks : List Tally} → Does gs c p o → RunShows (p .run) b d f x ks → RunAfter o b d f x ks
+  run-kept : {p : Peer} {o : Step} {b d : Bool} {f : Commit} {x : Pair} {ks : List Tally} → Does gs limit c p o → RunShows limit (p .run) b d f x ks → RunAfter o b d f x ks
   unfolding told said view message commitIn
   run-kept (quiet n E L) (no-run e) = rw n (no-run (E .free e))
-  run-kept (quiet n E L) (unpaired e a b c d z) = rw n (same-shows E (unpaired e a b c d z))
-  run-kept (quiet n E L) (paired e a b c d g z) = rw n (same-shows E (paired e a b c d g z))
+  run-kept (quiet n E L) (unpaired e a b c d z u) = rw n (same-shows E (unpaired e a b c d z u))
+  run-kept (quiet n E L) (paired e a b c d g z u) = rw n (same-shows E (paired e a b c d g z u))
   run-kept (informs n s x) (no-run e) = rw n (no-run e)
-  run-kept (informs n s x) (unpaired e a b c d z) = zero-one s e
-  run-kept (informs n s x) (paired e a b c d g z) = zero-two s e
+  run-kept (informs n s x) (unpaired e a b c d z u) = zero-one s e
+  run-kept (informs n s x) (paired e a b c d g z u) = zero-two s e
   run-kept (starts n m s A C k) (no-run e) =
-      rw (n, A .some) (unpaired (C .state) (sym (C .group)) (sym (C .own ∙ A .stock)) (rw (C .group, C .own) (A .padded)) (sym (C .sync)) refl)
-  run-kept (starts n m s A C k) (unpaired e a b c d z) = zero-one s e
-  run-kept (starts n m s A C k) (paired e a b c d g z) = zero-two s e
+      rw (n, A .some) (unpaired (C .state) (sym (C .group)) (sym (C .own ∙ A .stock)) (rw (C .group, C .own) (A .padded)) (sym (C .sync)) refl refl)
+  run-kept (starts n m s A C k) (unpaired e a b c d z u) = zero-one s e
+  run-kept (starts n m s A C k) (paired e a b c d g z u) = zero-two s e
   run-kept (switches n s A C k) (no-run e) = zero-one (no-run-state _ e) s
-  run-kept (switches n s A C k) (unpaired e a b c d z) =
-      rw (n, A .some) (unpaired (C .state) (sym (C .group)) (sym (C .own ∙ A .stock)) (rw (C .group, C .own) (A .padded)) (d ∙ sym (C .sync)) z)
-  run-kept (switches n s A C k) (paired e a b c d g z) = one-two s e
+  run-kept (switches n s A C k) (unpaired e a b c d z u) =
+      rw (n, A .some) (unpaired (C .state) (sym (C .group)) (sym (C .own ∙ A .stock)) (rw (C .group, C .own) (A .padded)) (d ∙ sym (C .sync)) z u)
+  run-kept (switches n s A C k) (paired e a b c d g z u) = one-two s e
   run-kept (forms-fresh n s A H C k) (no-run e) =
       rw (n, A .some, H .frame, H .reads)
-      (paired (C .state) (sym (C .group)) (sym (C .own ∙ A .stock)) (sym (C .peer ∙ H .stored-as)) (rw (C .group, C .own) (A .padded)) (rw (C .sc, C .sync)) (sym (C .sync)))
-  run-kept (forms-fresh n s A H C k) (unpaired e a b c d z) =
+      (paired (C .state) (sym (C .group)) (sym (C .own ∙ A .stock)) (sym (C .peer ∙ H .stored-as)) (rw (C .group, C .own) (A .padded)) (rw (C .sc, C .sync)) (sym (C .sync)) refl)
+  run-kept (forms-fresh n s A H C k) (unpaired e a b c d z u) =
       rw (n, A .some, H .frame, H .reads)
-      (paired (C .state) (sym (C .group)) (sym (C .own ∙ A .stock)) (sym (C .peer ∙ H .stored-as)) (rw (C .group, C .own) (A .padded)) (rw (C .sc, C .sync)) (z ∙ sym (C .sync)))
-  run-kept (forms-fresh n (inl s) A H C k) (paired e a b c d g z) = zero-two s e
-  run-kept (forms-fresh n (inr s) A H C k) (paired e a b c d g z) = one-two s e
+      (paired (C .state) (sym (C .group)) (sym (C .own ∙ A .stock)) (sym (C .peer ∙ H .stored-as)) (rw (C .group, C .own) (A .padded)) (rw (C .sc, C .sync)) (z ∙ sym (C .sync)) u)
+  run-kept (forms-fresh n (inl s) A H C k) (paired e a b c d g z u) = zero-two s e
+  run-kept (forms-fresh n (inr s) A H C k) (paired e a b c d g z u) = one-two s e
   run-kept (forms-own n s H C k) (no-run e) = zero-one (no-run-state _ e) s
-  run-kept (forms-own n s H C k) (unpaired e a b c d z) =
+  run-kept (forms-own n s H C k) (unpaired e a b c d z u) =
       rw (n, H .frame, H .reads)
-      (paired (C .state) (sym (C .group)) (b ∙ sym (C .own)) (sym (C .peer ∙ H .stored-as)) (rw (C .group, C .own) c) (rw (C .sc, C .sync)) (z ∙ sym (C .sync)))
-  run-kept (forms-own n s H C k) (paired e a b c d g z) = one-two s e
+      (paired (C .state) (sym (C .group)) (b ∙ sym (C .own)) (sym (C .peer ∙ H .stored-as)) (rw (C .group, C .own) c) (rw (C .sc, C .sync)) (z ∙ sym (C .sync)) u)
+  run-kept (forms-own n s H C k) (paired e a b c d g z u) = one-two s e
   run-kept (repeats n s m C k) (no-run e) = zero-one (no-run-state _ e) s
-  run-kept (repeats n s m C k) (unpaired e a b c d z) =
-      rw n (unpaired (C .state) (a ∙ sym (C .group)) (b ∙ sym (C .own)) (rw (C .group, C .own) c) (ap suc d ∙ sym (C .sync ∙ add-one _)) z)
-  run-kept (repeats n s m C k) (paired e a b c d g z) = one-two s e
+  run-kept (repeats n s m C k) (unpaired e a b c d z u) =
+      rw n (unpaired (C .state) (a ∙ sym (C .group)) (b ∙ sym (C .own)) (rw (C .group, C .own) c) (ap suc d ∙ sym (C .sync ∙ add-one _)) z u)
+  run-kept (repeats n s m C k) (paired e a b c d g z u) = one-two s e
   run-kept (repeats-both n s m C k) (no-run e) = zero-two (no-run-state _ e) s
-  run-kept (repeats-both n s m C k) (unpaired e a b c d z) = one-two e s
-  run-kept (repeats-both n s m C k) (paired e a b c d g z) =
+  run-kept (repeats-both n s m C k) (unpaired e a b c d z u) = one-two e s
+  run-kept (repeats-both n s m C k) (paired e a b c d g z u) =
       rw (n, not-one _ _ g)
-      (paired (C .state) (a ∙ sym (C .group)) (b ∙ sym (C .own)) (c ∙ sym (C .peer)) (rw (C .group, C .own) d) (rw (C .sc, C .sync, g)) (ap suc z ∙ sym (C .sync ∙ add-one _)))
+      (paired (C .state) (a ∙ sym (C .group)) (b ∙ sym (C .own)) (c ∙ sym (C .peer)) (rw (C .group, C .own) d) (rw (C .sc, C .sync, g)) (ap suc z ∙ sym (C .sync ∙ add-one _)) u)
   run-kept (repeats-confirm n s m C k) (no-run e) = zero-two (no-run-state _ e) s
-  run-kept (repeats-confirm n s m C k) (unpaired e a b c d z) = one-two e s
-  run-kept (repeats-confirm n s m C k) (paired e a b c d g z) =
+  run-kept (repeats-confirm n s m C k) (unpaired e a b c d z u) = one-two e s
+  run-kept (repeats-confirm n s m C k) (paired e a b c d g z u) =
       rw (n, not-one _ _ g)
-      (paired (C .state) (a ∙ sym (C .group)) (b ∙ sym (C .own)) (c ∙ sym (C .peer)) (rw (C .group, C .own) d) (rw (C .sc, C .sync, g)) (ap suc z ∙ sym (C .sync ∙ add-one _)))
+      (paired (C .state) (a ∙ sym (C .group)) (b ∙ sym (C .own)) (c ∙ sym (C .peer)) (rw (C .group, C .own) d) (rw (C .sc, C .sync, g)) (ap suc z ∙ sym (C .sync ∙ add-one _)) u)
   run-kept (accepts n s v k i j g x y) (no-run e) = zero-two (no-run-state _ e) s
-  run-kept (accepts n s v k i j g x y) (unpaired e a b c d z) = one-two e s
-  run-kept (accepts n s v k i j g x y) (paired e a b c d h z) = rw n (no-run k)
+  run-kept (accepts n s v k i j g x y) (unpaired e a b c d z u) = one-two e s
+  run-kept (accepts n s v k i j g x y) (paired e a b c d h z u) = rw n (no-run k)
   run-kept (abandons n k i) (no-run e) = rw n (no-run k)
-  run-kept (abandons n k i) (unpaired e a b c d z) = rw n (no-run k)
-  run-kept (abandons n k i) (paired e a b c d g z) = rw n (no-run k)
+  run-kept (abandons n k i) (unpaired e a b c d z u) = rw n (no-run k)
+  run-kept (abandons n k i) (paired e a b c d g z u) = rw n (no-run k)
   run-kept (ends n k i) (no-run e) = rw n (no-run (k ∙ e))
-  run-kept (ends n k i) (unpaired e a b c d z) = rw n (equal-shows k (unpaired e a b c d z))
-  run-kept (ends n k i) (paired e a b c d g z) = rw n (equal-shows k (paired e a b c d g z))
+  run-kept (ends n k i) (unpaired e a b c d z u) = rw n (equal-shows k (unpaired e a b c d z u))
+  run-kept (ends n k i) (paired e a b c d g z u) = rw n (equal-shows k (paired e a b c d g z u))
   run-kept (answers n s f k E) (no-run e) = rw n (no-run (k ∙ e))
-  run-kept (answers n s f k E) (unpaired e a b c d z) = zero-one s e
-  run-kept (answers n s f k E) (paired e a b c d g z) = zero-two s e
+  run-kept (answers n s f k E) (unpaired e a b c d z u) = zero-one s e
+  run-kept (answers n s f k E) (paired e a b c d g z u) = zero-two s e
 
 -- ---- a step keeps the link's part
 
@@ -191,9 +192,9 @@ unfolding supersede noLink
 superseded no-link = no-link
 superseded (a-link {p = p} {l = k} f a b c d) = either (Says (finished p true)) (k .finished is 0) (λ e. zero-one (eqb-true _ _ e) f) (λ e. a-link f refl b c d)
 
-module _ (gs : List ℕ) (c : Call) (a : List ℕ) where
-  link-kept : {p : Peer} {o : Step} {b d : Bool} {f : Commit} {x : Pair} {ks : List Tally} {l : story.Link} → Does gs c p o → RunShows (p .run) b d f x ks → Says l (p .link)
-      → Says (After gs c a l o b d f x ks .link) (o .peer .link)
+module _ (gs : List ℕ) (limit : ℕ) (c : Call) (a : List ℕ) where
+  link-kept : {p : Peer} {o : Step} {b d : Bool} {f : Commit} {x : Pair} {ks : List Tally} {l : story.Link} → Does gs limit c p o → RunShows limit (p .run) b d f x ks → Says l (p .link)
+      → Says (After gs limit c a l o b d f x ks .link) (o .peer .link)
   unfolding told said
   link-kept (quiet n E L) r h = unmarked (same-says L h)
   link-kept (informs n s x) r h = unmarked h
@@ -203,70 +204,70 @@ module _ (gs : List ℕ) (c : Call) (a : List ℕ) where
   link-kept (forms-own n s H C k) r h = rw (H .frame) (kept-says k (superseded h))
   link-kept (repeats n s m C k) r h = unmarked (kept-says k h)
   link-kept (repeats-both n s m C k) (no-run e) h = zero-two (no-run-state _ e) s
-  link-kept (repeats-both n s m C k) (unpaired e a b c d z) h = one-two e s
-  link-kept (repeats-both n s m C k) (paired e a b c d g z) h = rw (not-one _ _ g) (unmarked (kept-says k h))
+  link-kept (repeats-both n s m C k) (unpaired e a b c d z u) h = one-two e s
+  link-kept (repeats-both n s m C k) (paired e a b c d g z u) h = rw (not-one _ _ g) (unmarked (kept-says k h))
   link-kept (repeats-confirm n s m C k) (no-run e) h = zero-two (no-run-state _ e) s
-  link-kept (repeats-confirm n s m C k) (unpaired e a b c d z) h = one-two e s
-  link-kept (repeats-confirm n s m C k) (paired e a b c d g z) h = rw (not-one _ _ g) (unmarked (kept-says k h))
+  link-kept (repeats-confirm n s m C k) (unpaired e a b c d z u) h = one-two e s
+  link-kept (repeats-confirm n s m C k) (paired e a b c d g z u) h = rw (not-one _ _ g) (unmarked (kept-says k h))
   link-kept (accepts n s v k i j g x y) (no-run e) h = zero-two (no-run-state _ e) s
-  link-kept (accepts n s v k i j g x y) (unpaired e a b c d z) h = one-two e s
-  link-kept (accepts n s v k i j g x y) (paired e a b c d w z) h = a-link i j (g ∙ sym a) (x ∙ sym b) (y ∙ sym c)
+  link-kept (accepts n s v k i j g x y) (unpaired e a b c d z u) h = one-two e s
+  link-kept (accepts n s v k i j g x y) (paired e a b c d w z u) h = a-link i j (g ∙ sym a) (x ∙ sym b) (y ∙ sym c)
   link-kept (abandons n k i) r h = kept-says i h
   link-kept (ends n k i) r h = kept-says i no-link
   link-kept (answers n s f k E) r h = unmarked (same-says E h)
 
   -- ---- and the bound on repeats
 
-  six-kept : {p : Peer} {o : Step} {b d : Bool} {f : Commit} {x : Pair} {ks : List Tally} (l : story.Link) → Does gs c p o → RunShows (p .run) b d f x ks → AtMost 6 ks
-      → AtMost 6 (After gs c a l o b d f x ks .runs)
+  repeats-kept : {p : Peer} {o : Step} {b d : Bool} {f : Commit} {x : Pair} {ks : List Tally} (l : story.Link) → Does gs limit c p o → RunShows limit (p .run) b d f x ks → AtMost ks
+      → AtMost (After gs limit c a l o b d f x ks .runs)
   unfolding told said
-  six-kept l (quiet n E L) (no-run e) h = rw n h
-  six-kept l (quiet n E L) (unpaired e a b c d z) h = rw n h
-  six-kept l (quiet n E L) (paired e a b c d g z) h = rw n h
-  six-kept l (informs n s x) (no-run e) h = rw n h
-  six-kept l (informs n s x) (unpaired e a b c d z) h = zero-one s e
-  six-kept l (informs n s x) (paired e a b c d g z) h = zero-two s e
-  six-kept l (starts n m s A C k) r h = rw n (begun-at-most 5 _ h)
-  six-kept l (switches n s A C k) (no-run e) h = zero-one (no-run-state _ e) s
-  six-kept l (switches n s A C k) (unpaired e a b c d z) h = rw (n, A .some) h
-  six-kept l (switches n s A C k) (paired e a b c d g z) h = one-two s e
-  six-kept l (forms-fresh n s A H C k) (no-run e) h = rw (n, H .frame) (begun-at-most 5 _ h)
-  six-kept l (forms-fresh n s A H C k) (unpaired e a b c d z) h = rw (n, A .some, H .frame) h
-  six-kept l (forms-fresh n (inl s) A H C k) (paired e a b c d g z) h = zero-two s e
-  six-kept l (forms-fresh n (inr s) A H C k) (paired e a b c d g z) h = one-two s e
-  six-kept l (forms-own n s H C k) (no-run e) h = zero-one (no-run-state _ e) s
-  six-kept l (forms-own n s H C k) (unpaired e a b c d z) h = rw (n, H .frame) h
-  six-kept l (forms-own n s H C k) (paired e a b c d g z) h = one-two s e
-  six-kept l (repeats n s m C k) (no-run e) h = zero-one (no-run-state _ e) s
-  six-kept l (repeats n s m C k) (unpaired {k = t} {ks = ts} e a b c d z) h = rw n (let y : t .before ≤ 5 = rw d m in more-at-most 5 false (t ∷ ts) y h)
-  six-kept l (repeats n s m C k) (paired e a b c d g z) h = one-two s e
-  six-kept l (repeats-both n s m C k) (no-run e) h = zero-two (no-run-state _ e) s
-  six-kept l (repeats-both n s m C k) (unpaired e a b c d z) h = one-two e s
-  six-kept l (repeats-both n s m C k) (paired {k = t} {ks = ts} e a b c d g z) h =
-      rw (n, not-one _ _ g) (let y : t .after ≤ 5 = rw z m in more-at-most 5 true (t ∷ ts) y h)
-  six-kept l (repeats-confirm n s m C k) (no-run e) h = zero-two (no-run-state _ e) s
-  six-kept l (repeats-confirm n s m C k) (unpaired e a b c d z) h = one-two e s
-  six-kept l (repeats-confirm n s m C k) (paired {k = t} {ks = ts} e a b c d g z) h =
-      rw (n, not-one _ _ g) (let y : t .after ≤ 5 = rw z m in more-at-most 5 true (t ∷ ts) y h)
-  six-kept l (accepts n s v k i j g x y) (no-run e) h = zero-two (no-run-state _ e) s
-  six-kept l (accepts n s v k i j g x y) (unpaired e a b c d z) h = one-two e s
-  six-kept l (accepts n s v k i j g x y) (paired e a b c d w z) h = rw n h
-  six-kept l (abandons n k i) (no-run e) h = rw n h
-  six-kept l (abandons n k i) (unpaired e a b c d z) h = rw n h
-  six-kept l (abandons n k i) (paired e a b c d g z) h = rw n h
-  six-kept l (ends n k i) (no-run e) h = rw n h
-  six-kept l (ends n k i) (unpaired e a b c d z) h = rw n h
-  six-kept l (ends n k i) (paired e a b c d g z) h = rw n h
-  six-kept l (answers n s f k E) (no-run e) h = rw n h
-  six-kept l (answers n s f k E) (unpaired e a b c d z) h = zero-one s e
-  six-kept l (answers n s f k E) (paired e a b c d g z) h = zero-two s e
+  repeats-kept l (quiet n E L) (no-run e) h = rw n h
+  repeats-kept l (quiet n E L) (unpaired e a b c d z u) h = rw n h
+  repeats-kept l (quiet n E L) (paired e a b c d g z u) h = rw n h
+  repeats-kept l (informs n s x) (no-run e) h = rw n h
+  repeats-kept l (informs n s x) (unpaired e a b c d z u) h = zero-one s e
+  repeats-kept l (informs n s x) (paired e a b c d g z u) h = zero-two s e
+  repeats-kept l (starts n m s A C k) r h = rw n (begun-at-most limit _ h)
+  repeats-kept l (switches n s A C k) (no-run e) h = zero-one (no-run-state _ e) s
+  repeats-kept l (switches n s A C k) (unpaired e a b c d z u) h = rw (n, A .some) h
+  repeats-kept l (switches n s A C k) (paired e a b c d g z u) h = one-two s e
+  repeats-kept l (forms-fresh n s A H C k) (no-run e) h = rw (n, H .frame) (begun-at-most limit _ h)
+  repeats-kept l (forms-fresh n s A H C k) (unpaired e a b c d z u) h = rw (n, A .some, H .frame) h
+  repeats-kept l (forms-fresh n (inl s) A H C k) (paired e a b c d g z u) h = zero-two s e
+  repeats-kept l (forms-fresh n (inr s) A H C k) (paired e a b c d g z u) h = one-two s e
+  repeats-kept l (forms-own n s H C k) (no-run e) h = zero-one (no-run-state _ e) s
+  repeats-kept l (forms-own n s H C k) (unpaired e a b c d z u) h = rw (n, H .frame) h
+  repeats-kept l (forms-own n s H C k) (paired e a b c d g z u) h = one-two s e
+  repeats-kept l (repeats n s m C k) (no-run e) h = zero-one (no-run-state _ e) s
+  repeats-kept l (repeats n s m C k) (unpaired {k = t} {ks = ts} e a b c d z u) h = rw n (let y : t .before ≤ t .limit = rw (d, u) m in more-at-most false t ts y h)
+  repeats-kept l (repeats n s m C k) (paired e a b c d g z u) h = one-two s e
+  repeats-kept l (repeats-both n s m C k) (no-run e) h = zero-two (no-run-state _ e) s
+  repeats-kept l (repeats-both n s m C k) (unpaired e a b c d z u) h = one-two e s
+  repeats-kept l (repeats-both n s m C k) (paired {k = t} {ks = ts} e a b c d g z u) h =
+      rw (n, not-one _ _ g) (let y : t .after ≤ t .limit = rw (z, u) m in more-at-most true t ts y h)
+  repeats-kept l (repeats-confirm n s m C k) (no-run e) h = zero-two (no-run-state _ e) s
+  repeats-kept l (repeats-confirm n s m C k) (unpaired e a b c d z u) h = one-two e s
+  repeats-kept l (repeats-confirm n s m C k) (paired {k = t} {ks = ts} e a b c d g z u) h =
+      rw (n, not-one _ _ g) (let y : t .after ≤ t .limit = rw (z, u) m in more-at-most true t ts y h)
+  repeats-kept l (accepts n s v k i j g x y) (no-run e) h = zero-two (no-run-state _ e) s
+  repeats-kept l (accepts n s v k i j g x y) (unpaired e a b c d z u) h = one-two e s
+  repeats-kept l (accepts n s v k i j g x y) (paired e a b c d w z u) h = rw n h
+  repeats-kept l (abandons n k i) (no-run e) h = rw n h
+  repeats-kept l (abandons n k i) (unpaired e a b c d z u) h = rw n h
+  repeats-kept l (abandons n k i) (paired e a b c d g z u) h = rw n h
+  repeats-kept l (ends n k i) (no-run e) h = rw n h
+  repeats-kept l (ends n k i) (unpaired e a b c d z u) h = rw n h
+  repeats-kept l (ends n k i) (paired e a b c d g z u) h = rw n h
+  repeats-kept l (answers n s f k E) (no-run e) h = rw n h
+  repeats-kept l (answers n s f k E) (unpaired e a b c d z u) h = zero-one s e
+  repeats-kept l (answers n s f k E) (paired e a b c d g z u) h = zero-two s e
 
   -- a step of the rules keeps all of it
-  pub shows-kept : (p : Peer) (o : Step) (s : Story) → Does gs c p o → Shows p s → Shows (o .peer) (answered gs c (said o a) s)
+  pub shows-kept : (p : Peer) (o : Step) (s : Story) → Does gs limit c p o → Shows limit p s → Shows limit (o .peer) (answered gs limit c (said o a) s)
   shows-kept p o s D S =
-      record { run = run-kept gs c a (s .link) D (S .run); link = link-kept D (S .run) (S .link); six = six-kept (s .link) D (S .run) (S .six) }
+      record { run = run-kept gs limit c a (s .link) D (S .run); link = link-kept D (S .run) (S .link); repeats = repeats-kept (s .link) D (S .run) (S .repeats) }
 
--- a kill or a set up keeps it
-pub shows-cleared : (s : Story) → AtMost 6 (s .runs) → Shows noPeer (cleared s)
+-- a kill or a set up keeps it, whatever the limit of the table left
+pub shows-cleared : (limit : ℕ) (s : Story) → AtMost (s .runs) → Shows limit noPeer (cleared s)
 unfolding cleared noPeer
-shows-cleared s h = record { run = no-run refl; link = no-link; six = h }
+shows-cleared limit s h = record { run = no-run refl; link = no-link; repeats = h }

@@ -17,7 +17,7 @@ use Rattle.octets.proofs.Tests.{zero-is}
 use Rattle.groups.specs.Groups.{width, known, listed, commitLength, stored, placeFrom, place, placeOr0, indexOf, freshAt, freshFor, tailsOk, freshOk}
 use Rattle.groups.proofs.Laws.{commit-fits, listed-place, place-at}
 use Rattle.soundness.specs.Soundness.{allKnown, eachOnce}
-use Rattle.soundness.proofs.Laws.{header-form, groups-form, listed-known}
+use Rattle.soundness.proofs.Laws.{header-form, settings-form, groups-form, listed-known}
 use Rattle.table.specs.Table.{sound}
 use Rattle.table.proofs.Laws.{sound-header}
 use Rattle.agreement.specs.Calls.{Call}
@@ -122,5 +122,5 @@ pub record Listing (gs : List ℕ) : Type 0 where
 
 pub sound-listing : (t : List ℕ) → sound t ≡ true → Listing (groupsIn t)
 sound-listing t s =
-    let g = groups-form _ _ (header-form _ (sound-header t s) .groups) in
+    let g = groups-form _ _ (settings-form _ (header-form _ (sound-header t s) .settings) .groups) in
     record { known = g .known; once = g .once }

@@ -23,8 +23,8 @@ use Rattle.record.specs.Layout.{noPeer, noLink}
 use Rattle.table.specs.Table.{decodeTable, look}
 use Rattle.rules.specs.declared.Frame.{Frame}
 use Rattle.rules.specs.Book.{_is_}
-use Rattle.agreement.specs.Calls.{Call, receive, Entry, Handed, AllHanded, none, more, left, done, tableAfter, mine, tableOf, answerOf, stepped, Comes, last, sooner}
-use Rattle.agreement.specs.Story.{Pair, exchanged, Story, isConfirm, frameOf, groupsIn, storyOf}
+use Rattle.agreement.specs.Calls.{Call, receive, Entry, Handed, AllHanded, none, more, done, tableAfter, mine, tableOf, answerOf, stepped, Comes, last, sooner}
+use Rattle.agreement.specs.Story.{Pair, exchanged, Story, isConfirm, frameOf, groupsIn, limitIn, storyOf}
 use Rattle.agreement.specs.Story as story
 use Rattle.agreement.specs.Sent.{drawn, expectedOf, SendsBy, linkPair, madeOver, SentOver}
 use Rattle.agreement.specs.Statement as statement
@@ -53,19 +53,19 @@ pair-is x {g} {o} {p} e f k =
     ap (λ (y : ℕ). record { group = y; own = x .own; peer = x .peer }) e ∙ (ap (λ (y : List ℕ). record { group = g; own = y; peer = x .peer }) f
     ∙ ap (λ (y : List ℕ). record { group = g; own = o; peer = y }) k)
 
-run-paired : {r : Run} {b d : Bool} {f : Commit} {x : Pair} {ks : List Tally} → RunShows r b d f x ks → r .state ≡ 2
+run-paired : {limit : ℕ} {r : Run} {b d : Bool} {f : Commit} {x : Pair} {ks : List Tally} → RunShows limit r b d f x ks → r .state ≡ 2
     → (b ≡ true) × (d ≡ true) × (x ≡ record { group = r .group; own = r .own; peer = r .peer })
 run-paired (no-run e) s = zero-two (no-run-state _ e) s
-run-paired (unpaired e a b c d f) s = one-two e s
-run-paired (paired {p = p} e a b c d f g) s = (refl, refl, pair-is p a b c)
+run-paired (unpaired e a b c d f u) s = one-two e s
+run-paired (paired {p = p} e a b c d f g u) s = (refl, refl, pair-is p a b c)
 
-run-padded : {r : Run} {b d : Bool} {f : Commit} {x : Pair} {ks : List Tally} → RunShows r b d f x ks → (r .state ≡ 0 → ⊥) → Padded (r .group) (r .own)
+run-padded : {limit : ℕ} {r : Run} {b d : Bool} {f : Commit} {x : Pair} {ks : List Tally} → RunShows limit r b d f x ks → (r .state ≡ 0 → ⊥) → Padded (r .group) (r .own)
 run-padded (no-run e) s = absurd (s (no-run-state _ e))
-run-padded (unpaired e a b c d f) s = c
-run-padded (paired e a b c d f g) s = d
+run-padded (unpaired e a b c d f u) s = c
+run-padded (paired e a b c d f g u) s = d
 
-pub shows-pair : (p : Peer) (s : Story) → Shows p s → p .run .state ≡ 2 → s .pair ≡ pairOf p
-shows-pair p s S e = run-paired (S .run) e .2
+pub shows-pair : (limit : ℕ) (p : Peer) (s : Story) → Shows limit p s → p .run .state ≡ 2 → s .pair ≡ pairOf p
+shows-pair limit p s S e = run-paired (S .run) e .2
 
 no-link-clash : eqb (noLink .finished) 0 ≡ false → ⊥
 unfolding noLink
@@ -224,8 +224,8 @@ module _ (L : Lawful) (own : Side → List ℕ) where
     abbrev now-left : Peer
     now-left = look (decodeTable (tableAfter (tableOf h (e .side)) (e .call))) address
 
-    shown-left : Shows now-left (storyOf (e ∷ h) (e .side) address)
-    shown-left = subst (λ (q : Peer). Shows q (storyOf (e ∷ h) (e .side) address)) (left-peer e h) (shown L (more k H) (e .side) address)
+    shown-left : Shows (limitIn (tableOf (e ∷ h) (e .side))) now-left (storyOf (e ∷ h) (e .side) address)
+    shown-left = subst (λ (q : Peer). Shows (limitIn (tableOf (e ∷ h) (e .side))) q (storyOf (e ∷ h) (e .side) address)) (left-peer e h) (shown L (more k H) (e .side) address)
 
     -- a Confirm sent
     confirm-made : (octets : List ℕ) (x : Frame) (p : Pair) → SendsBy (e .side) address octets h e x → isConfirm x ≡ true
@@ -235,7 +235,7 @@ module _ (L : Lawful) (own : Side → List ℕ) where
         go : Over now-left x (deed-of k H .0) → SendsConfirm (ownOf p) (peerOf p) (deed-of k H .0)
         go (over-run f s c) =
             let z : storyOf (e ∷ h) (e .side) address .pair ≡ p = rw f at m in
-            subst (λ (y : Pair). SendsConfirm (ownOf y) (peerOf y) (deed-of k H .0)) (sym (shows-pair now-left _ shown-left s) ∙ z) c
+            subst (λ (y : Pair). SendsConfirm (ownOf y) (peerOf y) (deed-of k H .0)) (sym (shows-pair _ now-left _ shown-left s) ∙ z) c
         go (over-link f s c) =
             let z : linkPair (storyOf (e ∷ h) (e .side) address .link) (storyOf (e ∷ h) (e .side) address .pair) ≡ p = rw f at m in
             subst (λ (y : Pair). SendsConfirm (ownOf y) (peerOf y) (deed-of k H .0)) (sym (says-link _ (shown-left .link) (not-true _ s)) ∙ z) c
@@ -374,7 +374,7 @@ module _ (L : Lawful) (own : Side → List ℕ) where
         stepped = w .done;
         to = w .to;
         forms = w .forms;
-        pair = shows-pair (now-left k H) _ (shown-left k H) (w .state) ∙ sym (pair-is p g o t);
+        pair = shows-pair _ (now-left k H) _ (shown-left k H) (w .state) ∙ sym (pair-is p g o t);
       }
 
   pub formed-in : {h : List Entry} (H : AllHanded h) (Y : Side) (p : Pair) (t : ℕ) → At (Forms (ownOf p) (peerOf p)) Y t (hist H) → statement.Formed Y (own (other Y)) p h

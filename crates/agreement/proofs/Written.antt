@@ -82,7 +82,7 @@ module _ (t : List ℕ) (s : sound t ≡ true) (octets out : List ℕ) where
   record-writes-by a value q (found.At k) e m =
       let w = found-below (decodeTable t) a k e in
       let u : slot (decodeTable t) k .used ≡ 1 = eqb-true _ _ (and-left _ _ (w .1)) in
-      let P = peer-in-use _ _ _ (λ z. omega arith) (sound-peer t s k (w .0)) in
+      let P = peer-in-use _ _ _ _ (λ z. omega arith) (sound-peer t s k (w .0)) in
       let i = and-right (inUse (slot (decodeTable t) k)) _ (w .1) in
       let y = sym (usable-same (decodeTable t .header .own) (slot (decodeTable t) k .address) a i) ∙ P .usable in
       rw (s, y, e) (ap (λ (d : Drawn). draws d out) m)

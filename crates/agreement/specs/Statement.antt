@@ -2,10 +2,10 @@
 -- the answers tell of an address, Sent what was sent. `own` gives the two own addresses. The theorem is `demand3` in proofs/Demand.antt.
 use mathlib.Core.Path.{_≡_}
 use mathlib.Core.Bool.{Bool, true, false}
-use mathlib.Core.List.{List, [], _∷_}
+use mathlib.Core.List.{List, _∷_}
 use Prim.Native.Nat.{ℕ}
 use Rattle.protocol.specs.Model.{Side, A, B, other, Commit}
-use Rattle.protocol.specs.Repeats.{AtMost}
+use Rattle.protocol.specs.Repeats.{Within, Each, AtMost, Limited}
 use Rattle.octets.specs.Scan.{bit}
 use Rattle.octets.specs.Octets.{sameAddress}
 use Rattle.frame.specs.Frame.{readBody}
@@ -76,5 +76,8 @@ pub record Demand3 (own : Side → List ℕ) (h : List Entry) : Type 0 where
   -- (c) every finished link with the other: the other formed the same pair in a call of the list
   pub formed : Premises own h → (X : Side) (p : Pair) (mark : Bool) → storyOf h X (own (other X)) .link ≡ finished p mark
       → Formed (other X) (own X) (exchanged p) h
-  -- (d) every run at every address has at most six repeats before its pair stands and six after
-  pub six : (X : Side) (a : List ℕ) → AtMost 6 (storyOf h X a .runs)
+  -- (d) every run at every address has at most limit + 1 repeats before its pair stands and as many after, the limit being that of the table it began in
+  pub repeats : (X : Side) (a : List ℕ) → AtMost (storyOf h X a .runs)
+  -- a sound table's limit is 5: so every run has at most six repeats before its pair stands and six after
+  pub limits : (X : Side) (a : List ℕ) → Limited 5 (storyOf h X a .runs)
+  pub six : (X : Side) (a : List ℕ) → Each (Within 6) (storyOf h X a .runs)

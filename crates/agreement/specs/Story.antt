@@ -1,15 +1,16 @@
 -- What the answers of a printer's calls tell of one address, refused calls apart: commits used afresh, pairs formed, runs, the finished link and its
--- mark, repeats. The table is read for its listed groups alone, which say how a frame is read and which place of the stock a group has.
+-- mark, repeats. The table is read for its listed groups, which say how a frame is read and which place of the stock a group has, and for its Sync
+-- limit, which a run that begins keeps.
 use mathlib.Core.Path.{_≡_}
 use mathlib.Core.Bool.{Bool, true, false, not, _&&_, _||_}
 use mathlib.Core.List.{List, [], _∷_}
 use Prim.Native.Nat.{ℕ}
 use Rattle.protocol.specs.Model.{Side, Commit}
-use Rattle.protocol.specs.Repeats.{Tally, more}
+use Rattle.protocol.specs.Repeats.{Tally, begun, more}
 use Rattle.octets.specs.Scan.{if_then_else_}
 use Rattle.octets.specs.Octets.{sameAddress}
 use Rattle.groups.specs.Groups.{freshFor}
-use Rattle.record.specs.Layout.{groupsOf}
+use Rattle.record.specs.Layout.{groupsOf, limitOf}
 use Rattle.table.specs.Table.{decodeTable}
 use Rattle.rules.specs.declared.Frame.{Frame}
 use Rattle.rules.specs.declared.Frames.{Frames}
@@ -146,10 +147,10 @@ linkBy event.Accepted forms p l = finished p false
 linkBy event.Abandoned forms p l = l
 linkBy event.Ended forms p l = unlinked
 
--- ---- what a call does to the story. `starts`: it is a start; `afresh`: it uses the commit `used` afresh; `forms`: it forms a pair with the commit
--- `theirs`; `said`: its event; `sending`: it sends
+-- ---- what a call does to the story. `limit`: the Sync limit of its table; `starts`: it is a start; `afresh`: it uses the commit `used` afresh;
+-- `forms`: it forms a pair with the commit `theirs`; `said`: its event; `sending`: it sends
 
-module _ (starts afresh : Bool) (used : Commit) (forms : Bool) (theirs : Commit) (said : Event) (sending : Bool) where
+module _ (limit : ℕ) (starts afresh : Bool) (used : Commit) (forms : Bool) (theirs : Commit) (said : Event) (sending : Bool) where
   abbrev pub freshAfter : Story → Commit
   freshAfter s = if afresh then used else s .fresh
 
@@ -179,7 +180,7 @@ module _ (starts afresh : Bool) (used : Commit) (forms : Bool) (theirs : Commit)
 
   abbrev pub runsAfter : Story → List Tally
   runsAfter s =
-      if begins s then record { before = 0; after = 0 } ∷ s .runs
+      if begins s then begun limit ∷ s .runs
       else if repeats s then more (s .stands) (s .runs)
       else s .runs
 
@@ -188,9 +189,9 @@ module _ (starts afresh : Bool) (used : Commit) (forms : Bool) (theirs : Commit)
       record { fresh = freshAfter s; pair = pairAfter s; running = runningAfter s; stands = standsAfter s; link = linkAfter s; runs = runsAfter s }
 
 -- the call c with the answer r
-abbrev pub answered : List ℕ → Call → Answer → Story → Story
-answered groups c r s =
-    told (isStart c) (usesAfresh r) (usedAfresh groups c r) (formsPair c r) (heard groups c) (r .event) (sends (r .frames)) s
+abbrev pub answered : List ℕ → ℕ → Call → Answer → Story → Story
+answered groups limit c r s =
+    told limit (isStart c) (usesAfresh r) (usedAfresh groups c r) (formsPair c r) (heard groups c) (r .event) (sends (r .frames)) s
 
 -- a kill or a set up ends run and link
 abbrev pub clears : Call → Bool
@@ -209,12 +210,15 @@ cleared s = record { fresh = s .fresh; pair = s .pair; running = false; stands =
 abbrev pub groupsIn : List ℕ → List ℕ
 groupsIn t = groupsOf (decodeTable t .header)
 
+abbrev pub limitIn : List ℕ → ℕ
+limitIn t = limitOf (decodeTable t .header .settings .limit)
+
 -- a set up that is not refused is about every address, another call about its answer's
 abbrev pub isAbout : List ℕ → Call → List ℕ → Bool
 isAbout t c a = if isInitialize c then done t c else done t c && sameAddress (left t c .answer .address) a
 
 abbrev pub toldBy : List ℕ → Call → Story → Story
-toldBy t c s = if clears c then cleared s else answered (groupsIn t) c (left t c .answer) s
+toldBy t c s = if clears c then cleared s else answered (groupsIn t) (limitIn t) c (left t c .answer) s
 
 unfoldable pub storyAfter : List ℕ → Call → List ℕ → Story → Story
 storyAfter t c a s = if isAbout t c a then toldBy t c s else s

@@ -23,12 +23,12 @@ use Rattle.table.specs.declared.Entry.the-variants.{At}
 use Rattle.table.proofs.Laws.{entry-absent, sound-whole, peers-held}
 use Rattle.table.proofs.Fit.{bytes-placed}
 use Rattle.table.proofs.Kept.{placed-same, placed-other}
-use Rattle.answers.specs.Answers.{seating, finishAt, finishes, Left, turned, refuse, said}
+use Rattle.answers.specs.Answers.{ends, seating, finishAt, finishes, Left, turned, refuse, said}
 use Rattle.answers.specs.declared.Refusal.{Refusal}
 use Rattle.answers.specs.declared.Refusal.the-variants as why
 use Rattle.answers.specs.declared.Turn.{Turn}
 use Rattle.answers.specs.declared.Turn.the-variants.{Refused, Go}
-use Rattle.answers.proofs.Laws.{Entered, old, new, entered-seated, sits, sits-below}
+use Rattle.answers.proofs.Laws.{Entered, old, new, entered-seated, sits, sits-below, unchanged-ends}
 use Rattle.answers.proofs.Theorems.{Good, others-free, leaves, sound-here, look-here, look-elsewhere}
 
 -- a step was made: its answer, and the table that it leaves
@@ -36,8 +36,8 @@ pub record Finished (t a : List ℕ) (s : Step) (l : Left) : Type 0 where
   pub answer : l .answer ≡ said s a
   pub sound : sound (l .table) ≡ true
   pub bytes : Bytes (l .table)
-  -- the header is as it was but for its two counts
-  pub header : decodeTable (l .table) .header ≡ counted (decodeTable t .header) (decodeTable (l .table) .header .used) (decodeTable (l .table) .header .opened)
+  -- the header is as it was but for its counts
+  pub header : decodeTable (l .table) .header ≡ counted (decodeTable t .header) (decodeTable (l .table) .header .counts)
   -- the address has the step's record, and every other address what it had
   pub here : look (decodeTable (l .table)) a ≡ s .peer
   pub elsewhere : (c : List ℕ) → sameAddress a c ≡ false → look (decodeTable (l .table)) c ≡ look (decodeTable t) c
@@ -56,7 +56,7 @@ free-holds : (a : List ℕ) → belongs a noPeer ≡ false
 unfolding belongs noPeer
 free-holds a = refl
 
-header-placed : (T : Table) (k : ℕ) (p : Peer) → placed T k p .header ≡ counted (T .header) (placed T k p .header .used) (placed T k p .header .opened)
+header-placed : (T : Table) (k : ℕ) (p : Peer) → placed T k p .header ≡ counted (T .header) (placed T k p .header .counts)
 unfolding placed recounted withPeer
 header-placed T k p = refl
 
@@ -75,8 +75,8 @@ module _ (t a : List ℕ) (b : Bytes t) (la : length a ≡ 6) (ba : Bytes a) (f 
   -- a record that is not in use is the free one
   freed : inUse (s .peer) ≡ false → s .peer ≡ noPeer
   freed e = elim (ℕ-discrete (s .peer .used) 0) [
-    | yes z ↦ peer-unused _ _ (s .peer) (shape-peer (G .fits)) (G .form) z
-    | no d ↦ absurd (clash (eq-eqb _ _ (peer-in-use _ _ (s .peer) d (G .form) .used)) e)
+    | yes z ↦ peer-unused _ _ _ (s .peer) (shape-peer (G .fits)) (G .form) z
+    | no d ↦ absurd (clash (eq-eqb _ _ (peer-in-use _ _ _ (s .peer) d (G .form) .used)) e)
   ]
 
   owed : (x : Found) → Go f ≡ Go x → Good t a x s
@@ -117,16 +117,16 @@ module _ (t a : List ℕ) (b : Bytes t) (la : length a ≡ 6) (ba : Bytes a) (f 
         go false e = gone e
 
     table-is : finishes t f s a .table ≡ encodeTable (placed (decodeTable t) k (s .peer))
-    unfolding finishes finishAt
+    unfolding finishes finishAt ends placed
     table-is = rw (n, v) refl
 
     placed-finished : Finished t a s (finishes t f s a)
-    unfolding finishes finishAt
+    unfolding finishes finishAt ends
     placed-finished = record {
       answer = rw (n, v) refl;
       sound = subst (λ (l : Left). sound (l .table) ≡ true) same-end (sound-here (Go f) (λ x. s) t a b la ba owed f k refl n v);
       bytes = subst Bytes (sym table-is) (bytes-placed t (slots (decodeTable t)) k (s .peer) b (sound-whole t whole) (G .fits));
-      header = subst (λ (T : Table). T .header ≡ counted (decodeTable t .header) (T .header .used) (T .header .opened)) (sym read-again) (header-placed (decodeTable t) k (s .peer));
+      header = subst (λ (T : Table). T .header ≡ counted (decodeTable t .header) (T .header .counts)) (sym read-again) (header-placed (decodeTable t) k (s .peer));
       here = there-now;
       elsewhere = λ c d. subst (λ (l : Left). look (decodeTable (l .table)) c ≡ look (decodeTable t) c) same-end (look-elsewhere (Go f) (λ x. s) t a b la ba owed f k refl n v c d);
     }
@@ -135,10 +135,10 @@ module _ (t a : List ℕ) (b : Bytes t) (la : length a ≡ 6) (ba : Bytes a) (f 
   module _ (n : s .refused ≡ false) (v : seating (decodeTable t) f ≡ found.Nothing) where
     stays : finishes t f s a .table ≡ t
     unfolding finishes finishAt
-    stays = rw (n, v) refl
+    stays = rw (n, v) (unchanged-ends _ t b (entered-seated t a f (G .came) .whole))
 
     nowhere-finished : Finished t a s (finishes t f s a)
-    unfolding finishes finishAt
+    unfolding finishes finishAt ends
     nowhere-finished = record {
       answer = rw (n, v) refl;
       sound = rw stays (entered-seated t a f (G .came) .whole);

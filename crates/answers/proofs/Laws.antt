@@ -16,11 +16,12 @@ use Rattle.soundness.proofs.Laws.{peer-unused}
 use Rattle.rules.specs.Book.{Step}
 use Rattle.rules.specs.declared.Said.{Said}
 use Rattle.rules.specs.Said.{saying}
-use Rattle.table.specs.Table.{Table, entry, sound, encodeTable, decodeTable, placed, withPeer, recounted, slot, slots, freeSlot, Ready}
+use Rattle.table.specs.Table.{Table, entry, sound, encodeTable, decodeTable, withPeer, recounted, slot, slots, freeSlot, Ready}
 use Rattle.table.specs.declared.Entry.the-variants.{Absent, At}
 use Rattle.table.proofs.Laws.{entry-at, entry-absent, found-below, free-below-law, sound-whole, sound-peer, peers-held, ready}
 use Rattle.table.proofs.Fit.{fit-decoded, fit-slot}
-use Rattle.answers.specs.Answers.{Leaves, turned, refuse, refused, said, answered, seating, finishAt, finishes, Seated}
+use Rattle.table.proofs.Kept.{recounted-again}
+use Rattle.answers.specs.Answers.{Leaves, ends, turned, refuse, refused, said, answered, seating, finishAt, finishes, Seated}
 use Rattle.answers.specs.declared.Refusal.{Refusal}
 use Rattle.answers.specs.declared.Refusal.the-variants as why
 use Rattle.answers.specs.declared.Turn.{Turn}
@@ -60,9 +61,14 @@ pub free-record : (t : List ℕ) (k : ℕ) → Bytes t → sound t ≡ true → 
 free-record t k b s e =
     let w = free-below-law (decodeTable t) k e in
     let l : k < length (decodeTable t .peers) = omega (arith, peers-held t (slots (decodeTable t)) (sound-whole t s), w .0) in
-    peer-unused _ _ _ (shape-peer (fit-slot (decodeTable t) k (fit-decoded t _ b (sound-whole t s)) l)) (sound-peer t s k (w .0)) (eqb-true _ _ (w .1))
+    peer-unused _ _ _ _ (shape-peer (fit-slot (decodeTable t) k (fit-decoded t _ b (sound-whole t s)) l)) (sound-peer t s k (w .0)) (eqb-true _ _ (w .1))
 
 -- ---- the end of every call
+
+-- NOTHING CHANGED, nothing changes: the end leaves a sound table as it was
+pub unchanged-ends : (r : Answer) (t : List ℕ) → Bytes t → sound t ≡ true → ends r (decodeTable t) .table ≡ t
+unfolding ends
+unchanged-ends r t b s = recounted-again t b s
 
 answered-said : (s : Step) (x : Said) (a : List ℕ) (r : Answer) → x ≡ saying s → r ≡ answered x a → r ≡ said s a
 unfolding said
@@ -81,14 +87,15 @@ module _ (t a : List ℕ) (f : Found) (s : Step) (r : Answer) where
   full-refused n z = rw n (record { answer = z; table = refl })
 
   -- no slot is free, and none is needed
-  pub full-said : (x : Said) → s .refused ≡ false → seating (decodeTable t) f ≡ found.Nothing → x ≡ saying s → r ≡ answered x a → Leaves r t (finishes t f s a)
-  unfolding finishAt
-  full-said x n q e z = finished-in found.Nothing t n q (record { answer = answered-said s x a r e z; table = refl })
+  pub full-said : (x : Said) → Bytes t → sound t ≡ true → s .refused ≡ false → seating (decodeTable t) f ≡ found.Nothing → x ≡ saying s → r ≡ answered x a
+      → Leaves r t (finishes t f s a)
+  unfolding finishAt ends
+  full-said x b w n q e z = finished-in found.Nothing t n q (record { answer = answered-said s x a r e z; table = sym (recounted-again t b w) })
 
   -- THE RECORD CHANGED WHERE IT LIES, and the counts made true, are the step finished
   pub finish-law : (u v : List ℕ) (k : ℕ) (x : Said) → s .refused ≡ false → seating (decodeTable t) f ≡ found.At k → decodeTable u ≡ withPeer (decodeTable t) k (s .peer) → x ≡ saying s
       → r ≡ answered x a → v ≡ encodeTable (recounted (decodeTable u)) → Leaves r v (finishes t f s a)
-  unfolding finishAt placed
+  unfolding finishAt ends
   finish-law u v k x n q d ex er ev =
       finished-in (found.At k) v n q (record { answer = answered-said s x a r ex er; table = ev ∙ ap (λ (X : Table). encodeTable (recounted X)) d })
 

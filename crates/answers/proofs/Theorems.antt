@@ -16,26 +16,26 @@ use Rattle.groups.specs.Groups.{width}
 use Rattle.record.specs.declared.Peer.{Peer}
 use Rattle.record.specs.Layout.{groupsOf, noPeer}
 use Rattle.record.proofs.Laws.{FitPeer}
-use Rattle.soundness.specs.Soundness.{peerOk}
+use Rattle.soundness.specs.Soundness.{highSync, peerOk}
 use Rattle.rules.specs.Book.{Step}
-use Rattle.table.specs.Table.{Table, entry, sound, encodeTable, decodeTable, placed, slot, slots, inUse, belongs, look, usedCount, openCount}
+use Rattle.table.specs.Table.{Table, entry, sound, encodeTable, decodeTable, placed, slot, slots, inUse, belongs, look, countsOf}
 use Rattle.table.specs.declared.Entry.the-variants.{At}
 use Rattle.table.proofs.Laws.{entry-at, entry-absent, found-below, sound-whole, peers-held, none-holds, free-below-law}
 use Rattle.table.proofs.Fit.{fit-slot, fit-decoded}
-use Rattle.table.proofs.Kept.{Alone, sound-form, placed-sound, placed-decoded, placed-used, placed-open, look-other, look-same}
-use Rattle.answers.specs.Answers.{Left, seating, finishAt, finishes, turned, refuse, refused, said}
+use Rattle.table.proofs.Kept.{Alone, sound-form, placed-sound, placed-decoded, placed-counts, look-other, look-same}
+use Rattle.answers.specs.Answers.{Left, ends, seating, finishAt, finishes, turned, refuse, refused, said}
 use Rattle.answers.specs.declared.Refusal.{Refusal}
 use Rattle.answers.specs.declared.Refusal.the-variants as why
 use Rattle.answers.specs.declared.Turn.{Turn}
 use Rattle.answers.specs.declared.Turn.the-variants.{Refused, Go}
 use Rattle.answers.specs.declared.Outcome.the-variants as outcome
-use Rattle.answers.proofs.Laws.{Entered, old, new, Sits, there, free, entered-seated, sits, sits-below}
+use Rattle.answers.proofs.Laws.{Entered, old, new, Sits, there, free, entered-seated, sits, sits-below, unchanged-ends}
 
 -- what a call owes of its step: the record has its form, and the call's address if it is in use
 pub record Good (t a : List ℕ) (f : Found) (s : Step) : Type 0 where
   pub came : Entered t a f
   pub fits : FitPeer width (s .peer)
-  pub form : peerOk (decodeTable t .header .own) (groupsOf (decodeTable t .header)) (s .peer) ≡ true
+  pub form : peerOk (decodeTable t .header .own) (groupsOf (decodeTable t .header)) (highSync (decodeTable t .header)) (s .peer) ≡ true
   pub own : inUse (s .peer) ≡ true → s .peer .address ≡ a
   -- without a slot it is refused, or its record stays the free one
   pub stays : seating (decodeTable t) f ≡ found.Nothing → s .refused ≡ false → s .peer ≡ noPeer
@@ -84,13 +84,13 @@ self-record p a u e = rw (u, e) (same-address-refl a)
 module _ (w : Turn) (g : Found → Step) (t a : List ℕ) (b : Bytes t) (la : length a ≡ 6) (ba : Bytes a) (G : (f : Found) → w ≡ Go f → Good t a f (g f)) where
   -- A REFUSAL leaves every octet
   pub refusal-leaves : (c : Refusal) → turned w g t a .answer .outcome ≡ outcome.Refused c → turned w g t a .table ≡ t
-  unfolding turned refused said finishes finishAt
+  unfolding turned refused said finishes finishAt ends
   refusal-leaves c e = go w refl e
     where
       finished : (b : Bool) (s : Step) (x : Found) → (if b then refuse t why.Full else finishAt x t s a) .answer .outcome ≡ outcome.Refused c → (if b then refuse t why.Full else finishAt x t s a) .table ≡ t
       finished true s x q = refl
       finished false s (found.At k) q = let z : _≡_ {A = ℕ} 0 1 = cc in absurd (omega arith)
-      finished false s found.Nothing q = refl
+      finished false s found.Nothing q = let z : _≡_ {A = ℕ} 0 1 = cc in absurd (omega arith)
 
       go : (x : Turn) → w ≡ x → turned x g t a .answer .outcome ≡ outcome.Refused c → turned x g t a .table ≡ t
       go (Refused d) p q = refl
@@ -110,7 +110,7 @@ module _ (w : Turn) (g : Found → Step) (t a : List ℕ) (b : Bytes t) (la : le
     held = omega (arith, peers-held t (slots (decodeTable t)) (sound-whole t whole), below)
 
     pub placed-here : turned w g t a .table ≡ encodeTable (placed (decodeTable t) k (g f .peer))
-    unfolding turned finishes finishAt
+    unfolding turned finishes finishAt ends placed
     placed-here = ap (λ (x : Turn). turned x g t a .table) e ∙ rw (n, v) refl
 
     -- what the call leaves, read again
@@ -136,11 +136,8 @@ module _ (w : Turn) (g : Found → Step) (t a : List ℕ) (b : Bytes t) (la : le
         ∙ look-other (decodeTable t) k (g f .peer) c held (other-slot t a c f k b la ba (G f e .came) in-slot n) (other-record (g f .peer) a c (G f e .own) n)
 
     -- THE COUNTS are true
-    pub counts-used : decodeTable (turned w g t a .table) .header .used ≡ usedCount (decodeTable (turned w g t a .table))
-    counts-used = subst (λ (T : Table). T .header .used ≡ usedCount T) (sym leaves) (placed-used (decodeTable t) k (g f .peer) held)
-
-    pub counts-open : decodeTable (turned w g t a .table) .header .opened ≡ openCount (decodeTable (turned w g t a .table))
-    counts-open = subst (λ (T : Table). T .header .opened ≡ openCount T) (sym leaves) (placed-open (decodeTable t) k (g f .peer) held)
+    pub counts-true : decodeTable (turned w g t a .table) .header .counts ≡ countsOf (decodeTable (turned w g t a .table))
+    counts-true = subst (λ (T : Table). T .header .counts ≡ countsOf T) (sym leaves) (placed-counts (decodeTable t) k (g f .peer) held)
 
   -- SOUND tables stay sound, and every other address keeps its record, whatever the call did
   pub stays-sound : sound t ≡ true → sound (turned w g t a .table) ≡ true
@@ -153,7 +150,7 @@ module _ (w : Turn) (g : Found → Step) (t a : List ℕ) (b : Bytes t) (la : le
       ended : (f : Found) → w ≡ Go f → (b : Bool) → g f .refused ≡ b → (x : Found) → seating (decodeTable t) f ≡ x → sound (turned w g t a .table) ≡ true
       ended f e true n x v = kept (refuse t why.Full) (ap (λ (y : Turn). turned y g t a) e ∙ rw n refl) refl
       ended f e false n (found.At k) v = sound-here f k e n v
-      ended f e false n found.Nothing v = kept (finishAt found.Nothing t (g f) a) (ap (λ (y : Turn). turned y g t a) e ∙ rw (n, v) refl) refl
+      ended f e false n found.Nothing v = kept (finishAt found.Nothing t (g f) a) (ap (λ (y : Turn). turned y g t a) e ∙ rw (n, v) refl) (unchanged-ends (said (g f) a) t b s)
 
       go : (x : Turn) → w ≡ x → sound (turned w g t a .table) ≡ true
       go (Refused d) p = kept (refuse t d) (ap (λ (y : Turn). turned y g t a) p) refl

@@ -12,7 +12,7 @@ use Rattle.rules.specs.declared.Frames.the-variants as frames
 use Rattle.rules.specs.Book.{Step}
 use Rattle.rules.specs.declared.Said.{Said}
 use Rattle.rules.specs.Said.{saying}
-use Rattle.table.specs.Table.{Table, decodeTable, encodeTable, slots, freeSlot, sound, placed}
+use Rattle.table.specs.Table.{Table, decodeTable, encodeTable, slots, freeSlot, sound, withPeer, recounted}
 use Rattle.answers.specs.declared.Refusal.{Refusal}
 use Rattle.answers.specs.declared.Refusal.the-variants as why
 use Rattle.answers.specs.declared.Outcome.{Outcome}
@@ -81,10 +81,15 @@ unfoldable pub seating : Table → Found → Found
 seating T (found.At k) = found.At k
 seating T found.Nothing = freeSlot T
 
--- the end of a step: its record is stored in its slot and the counts are made true; without a slot nothing changes
+-- THE END of every call that is not refused: the counts are made true. Of a sound table in which nothing was changed they are, and it stays octet for octet
+-- (`unchanged-ends`).
+unfoldable pub ends : Answer → Table → Left
+ends answer T = record { answer = answer; table = encodeTable (recounted T) }
+
+-- the end of a step: its record is stored in its slot; without a slot nothing is
 unfoldable pub finishAt : Found → List ℕ → Step → List ℕ → Left
-finishAt (found.At k) t s address = record { answer = said s address; table = encodeTable (placed (decodeTable t) k (s .peer)) }
-finishAt found.Nothing t s address = record { answer = said s address; table = t }
+finishAt (found.At k) t s address = ends (said s address) (withPeer (decodeTable t) k (s .peer))
+finishAt found.Nothing t s address = ends (said s address) (decodeTable t)
 
 -- "New record needed, no free slot": 9
 unfoldable pub finishes : List ℕ → Found → Step → List ℕ → Left

@@ -31,7 +31,7 @@ use Rattle.answers.proofs.Ending.{Finished, Turned, denied, done, turn-ends}
 use Rattle.calls.specs.Calls.{startTurn, startStep, initiates, killTurn, killStep, kills, frameTurn, frameStep, receives, dueSlot, clockStep, expires}
 use Rattle.call_laws.specs.Isolation.{PeerCall, initiate, kill, receive, expire, Handed, an-initiate, a-kill, a-receive, an-expire, left}
 use Rattle.call_laws.specs.Deadlines.{StillAt, Moves, sends, ends, Silent, isKill}
-use Rattle.call_laws.proofs.Good.{groupsIn, ownIn, entered-kept, start-entered, kill-entered, frame-entered, no-run, initiate-good, kill-good, receive-good, due-kept, due-entry, expire-address}
+use Rattle.call_laws.proofs.Good.{groupsIn, ownIn, highIn, entered-kept, start-entered, kill-entered, frame-entered, no-run, initiate-good, kill-good, receive-good, due-kept, due-entry, expire-address}
 use Rattle.call_laws.proofs.Ends.{look-found, entered-finds, takes, clock-ends}
 use Rattle.call_laws.proofs.Sound.{expire-keeps-none}
 
@@ -74,7 +74,7 @@ module _ (t x : List ℕ) (b : Bytes t) (lx : length x ≡ 6) (bx : Bytes x) whe
   start-moves time fresh f e =
       let w = start-entered t x fresh (entry t x) f refl e in
       subst (λ (p : Peer). StepMoves false p (startStep (decodeTable t) f x time fresh)) (look-found (decodeTable t) x f (entered-finds t x f (w .0)))
-      (act-moves _ _ (lookBy (decodeTable t) f) silence (entered-kept t x b lx bx f (w .0)) (start-asked _ _ _ silence (no-run _ (w .2))))
+      (act-moves _ _ (lookBy (decodeTable t) f) silence (highIn t) (entered-kept t x b lx bx f (w .0)) (start-asked _ _ _ silence (no-run _ (w .2))))
 
   frame-moves : (time : ℕ) (frame fresh expected : List ℕ) (verdict : ℕ) (f : Found) → frameTurn (entry t x) t frame fresh expected verdict ≡ Go f
       → StepMoves false (look (decodeTable t) x) (frameStep (decodeTable t) f x time frame fresh expected verdict)
@@ -82,14 +82,14 @@ module _ (t x : List ℕ) (b : Bytes t) (lx : length x ≡ 6) (bx : Bytes x) whe
   frame-moves time frame fresh expected verdict f e =
       let w = frame-entered t x frame fresh expected verdict (entry t x) f refl e .0 in
       subst (λ (p : Peer). StepMoves false p (frameStep (decodeTable t) f x time frame fresh expected verdict)) (look-found (decodeTable t) x f (entered-finds t x f w))
-      (act-moves _ _ (lookBy (decodeTable t) f) _ (entered-kept t x b lx bx f w) (frame-asked _ _ _ _))
+      (act-moves _ _ (lookBy (decodeTable t) f) _ (highIn t) (entered-kept t x b lx bx f w) (frame-asked _ _ _ _))
 
   -- a kill frees a record that was in use, so that it had a run or a link
-  freed-moves : (p : Peer) → Kept (ownIn t) (groupsIn t) x p → StepMoves true p killStep
+  freed-moves : (p : Peer) → Kept (ownIn t) (groupsIn t) (highIn t) x p → StepMoves true p killStep
   unfolding killStep noPeer noRun noLink
   freed-moves p k = elim (ℕ-discrete (p .used) 0) [
-    | yes z ↦ still (same-still p noPeer (sym (peer-unused _ _ p (shape-peer (k .fits)) (k .form) z)))
-    | no d ↦ go (hasRun p) (hasLink p) refl refl (peer-in-use _ _ p d (k .form) .some)
+    | yes z ↦ still (same-still p noPeer (sym (peer-unused _ _ _ p (shape-peer (k .fits)) (k .form) z)))
+    | no d ↦ go (hasRun p) (hasLink p) refl refl (peer-in-use _ _ _ p d (k .form) .some)
   ]
     where
       go : (u v : Bool) → hasRun p ≡ u → hasLink p ≡ v → (u || v) ≡ true → StepMoves true p killStep
@@ -111,14 +111,15 @@ module _ (t : List ℕ) (time : ℕ) (b : Bytes t) (ht : time < 2 ^ 32) (a : Lis
       let kept = due-kept t time k b s e in
       subst (λ (p : Peer). StepMoves false p (clockStep (decodeTable t) k time))
       (look-found (decodeTable t) (slot (decodeTable t) k .address) (found.At k) (entry-at t _ k (due-entry t time k b s e) .1 .1))
-      (act-moves _ _ (slot (decodeTable t) k) silence kept (clock-asked _ _ _ (run-states (groupsIn t) (slot (decodeTable t) k .run) (parts (ownIn t) (groupsIn t) _ _ kept .run))))
+      (act-moves _ _ (slot (decodeTable t) k) silence (highIn t) kept
+      (clock-asked _ _ _ (run-states (groupsIn t) (highIn t) (slot (decodeTable t) k .run) (parts (ownIn t) (groupsIn t) (highIn t) _ _ kept .run))))
 
   unsound-clock : sound t ≡ false → expires t time .table ≡ t
   unfolding expires
   unsound-clock n = rw n refl
 
   clock-moves : (f : Found) → dueSlot (decodeTable t) time ≡ f → (StillAt t a (expires t time) → ⊥) → Moves t a false (expires t time)
-  clock-moves found.Nothing e = λ d. absurd (d (unchanged-still t a (expires t time) (expire-keeps-none t time e)))
+  clock-moves found.Nothing e = λ d. absurd (d (unchanged-still t a (expires t time) (expire-keeps-none t time b e)))
   clock-moves (found.At k) e = elim (cases (sound t)) [
     | inl s ↦
         let x = expire-address t time k b s e in

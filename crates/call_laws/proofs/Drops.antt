@@ -18,8 +18,8 @@ use Rattle.rules.proofs.Drops.{drop-named, named-drop, drop-unchanged}
 use Rattle.answers.specs.declared.Refusal.the-variants as why
 use Rattle.answers.specs.declared.Turn.{Turn}
 use Rattle.answers.specs.declared.Turn.the-variants.{Refused, Go}
-use Rattle.answers.specs.Answers.{seating, finishAt, finishes, turned, refuse, refused, said, quiet}
-use Rattle.answers.proofs.Laws.{Entered, free-record}
+use Rattle.answers.specs.Answers.{ends, seating, finishAt, finishes, turned, refuse, refused, said, quiet}
+use Rattle.answers.proofs.Laws.{Entered, free-record, unchanged-ends}
 use Rattle.calls.specs.Calls.{frameTurn, frameStep, receives}
 use Rattle.call_laws.specs.Causes.{frameNames}
 use Rattle.call_laws.specs.Isolation.{PeerCall, after}
@@ -34,7 +34,7 @@ module _ (t a : List ℕ) (b : Bytes t) (w : sound t ≡ true) (s : Step) where
   stored-again k e = ap (λ (p : Peer). encodeTable (placed (decodeTable t) k p)) e ∙ placed-again t k b w
 
   pub same-finish : (f : Found) → s .peer ≡ lookBy (decodeTable t) f → finishes t f s a .table ≡ t
-  unfolding finishes finishAt seating lookBy
+  unfolding finishes finishAt ends placed seating lookBy
   same-finish (found.At k) e = go (s .refused)
     where
       go : (x : Bool) → (if x then refuse t why.Full else finishAt (found.At k) t s a) .table ≡ t
@@ -44,7 +44,7 @@ module _ (t a : List ℕ) (b : Bytes t) (w : sound t ≡ true) (s : Step) where
     where
       go : (x : Bool) (g : Found) → freeSlot (decodeTable t) ≡ g → (if x then refuse t why.Full else finishAt g t s a) .table ≡ t
       go true g q = refl
-      go false found.Nothing q = refl
+      go false found.Nothing q = unchanged-ends (said s a) t b w
       go false (found.At k) q = stored-again k (e ∙ sym (free-record t k b w q))
 
 module _ (t a : List ℕ) (time : ℕ) (frame fresh expected : List ℕ) (verdict : ℕ) where

@@ -5,15 +5,19 @@ use mathlib.Core.Bool.{Bool, true, false, not}
 use mathlib.Core.List.{List}
 use Prim.Native.Nat.{ℕ, _^_, _<_}
 use native.Mathlib.Omega.{arith}
+use lib.ListN.{length}
 use Rattle.octets.specs.Scan.{if_then_else_}
 use Rattle.octets.specs.Octets.{Bytes}
 use Rattle.octets.specs.declared.Found.{Found}
 use Rattle.octets.specs.declared.Found.the-variants as found
+use Rattle.record.specs.declared.Settings.{Settings}
 use Rattle.soundness.specs.Soundness.{usable}
-use Rattle.table.specs.Table.{Table, decodeTable, slot, finds, lookBy, look, sound, entry, foundEntry}
+use Rattle.table.specs.Table.{Table, decodeTable, encodeTable, slot, finds, lookBy, look, sound, entry, foundEntry}
+use Rattle.table.specs.Initial.{slotsFor, initialOk, initialTable, initial}
 use Rattle.table.specs.declared.Entry.{Entry}
 use Rattle.table.specs.declared.Entry.the-variants as entry-is
 use Rattle.table.proofs.Laws.{entry-at, entry-absent}
+use Rattle.table.proofs.Initial.{initial-ok-form, initial-recounted}
 use Rattle.rules.specs.Book.{Step}
 use Rattle.rule_laws.proofs.Slots.{clock-seated}
 use Rattle.answers.specs.declared.Refusal.{Refusal}
@@ -23,10 +27,10 @@ use Rattle.answers.specs.declared.Turn.the-variants.{Refused, Go}
 use Rattle.answers.specs.declared.Outcome.{Outcome}
 use Rattle.answers.specs.declared.Outcome.the-variants as outcome
 use Rattle.answers.specs.declared.Answer.{Answer}
-use Rattle.answers.specs.Answers.{Left, seating, finishAt, finishes, turned, refuse, refused, said}
+use Rattle.answers.specs.Answers.{Left, ends, seating, finishAt, finishes, turned, refuse, refused, said, quiet}
 use Rattle.answers.proofs.Laws.{Entered, old, new}
 use Rattle.answers.proofs.Ending.{Finished, finish-ends}
-use Rattle.calls.specs.Calls.{dueSlot, clockStep, expiresBy, expires}
+use Rattle.calls.specs.Calls.{initializes, dueSlot, clockStep, expiresBy, expires}
 use Rattle.call_laws.proofs.Good.{expire-good, expire-address}
 
 -- ---- what an address comes to
@@ -60,7 +64,7 @@ entered-finds t a f (new e) = entry-absent t a e .1 .1
 -- ---- the answer, by whether the step is refused
 
 pub finish-answer : (t : List ℕ) (f : Found) (s : Step) (a : List ℕ) → finishes t f s a .answer ≡ (if s .refused then refused why.Full else said s a)
-unfolding finishes finishAt
+unfolding finishes finishAt ends
 finish-answer t f s a = go (s .refused) (seating (decodeTable t) f)
   where
     go : (b : Bool) (x : Found) → (if b then refuse t why.Full else finishAt x t s a) .answer ≡ (if b then refused why.Full else said s a)
@@ -95,6 +99,20 @@ module _ (g : Found → Step) (t a : List ℕ) where
 pub said-not : (s : Step) (a : List ℕ) (c : Refusal) → said s a ≡ refused c → ⊥
 unfolding said refused
 said-not s a c e = let q : outcome.Done ≡ outcome.Refused c = ap (λ (r : Answer). r .outcome) e in let z : _≡_ {A = ℕ} 0 1 = cc in omega arith
+
+-- ---- set up leaves the fresh table, whose counts are true already, or the buffer as it was
+
+pub set-up-leaves : (t own : List ℕ) (s : Settings) → initializes t own s .table ≡ initial s own t
+unfolding initializes initial ends
+set-up-leaves t own s = go (initialOk s own (length t)) refl
+  where
+    go : (b : Bool) → initialOk s own (length t) ≡ b
+        → (if b then ends (quiet own) (initialTable s own (slotsFor (length t))) else refuse t why.Settings) .table
+        ≡ (if b then encodeTable (initialTable s own (slotsFor (length t))) else t)
+    go true e =
+        let g = initial-ok-form s own (length t) e in
+        ap encodeTable (initial-recounted s own (slotsFor (length t)) (g .settings) (g .owner) (g .some) (g .few))
+    go false e = refl
 
 -- ---- the clock's call, where a record is due
 

@@ -4,7 +4,7 @@ use mathlib.Core.Bool.{Bool, true, false, not, _&&_, _||_}
 use mathlib.Core.List.{List, [], _∷_}
 use Prim.Native.Nat.{ℕ, zero, suc, _+_, _-_, _*_, _^_, _≤_, _<_}
 use native.Mathlib.Omega.{arith}
-use lib.Dec.{eqb, ltb, lit<, lit≤}
+use lib.Dec.{eqb, ltb, lit<}
 use lib.ListN.{length, drop, getD, replicate, length-replicate, length-append}
 use lib.Seq.{drop-at, getD-take}
 use borrow.Author.Tests.{eqb-true, eqb-false, eq-eqb, not-true, not-false}
@@ -22,16 +22,16 @@ use Rattle.frame.specs.declared.Body.{Body}
 use Rattle.frame.specs.declared.Body.the-variants as body
 use Rattle.frame.proofs.Shapes.{commit-shape, other-group-shape, token-request-shape, group-refusal-shape, confirm-shape, field-fits}
 use Rattle.record.specs.declared.Peer.{Peer}
-use Rattle.record.specs.Layout.{groupsOf, noPeer, decodeHeader, headerOf}
+use Rattle.record.specs.Layout.{groupsOf, noPeer, decodeHeader, headerOf, factoryLimit, periodOf, limitOf}
 use Rattle.soundness.specs.Soundness.{usable, highSync, commitOk}
-use Rattle.soundness.proofs.Laws.{header-form, groups-form, groups-length}
+use Rattle.soundness.proofs.Laws.{Groups, SettingsForm, header-form, settings-form, groups-form, groups-length}
 use Rattle.table.specs.Table.{Table, decodeTable, slot, slots, belongs, finds, lookBy, look, sound, entry, foundEntry}
 use Rattle.table.specs.declared.Entry.{Entry}
 use Rattle.table.specs.declared.Entry.the-variants as entry-is
 use Rattle.table.proofs.Laws.{entry-at, entry-absent, found-below, sound-header, sound-peer, sound-whole, peers-held, none-holds}
 use Rattle.table.proofs.Fit.{fit-slot, fit-decoded}
 use Rattle.table.proofs.Kept.{sound-form, found-only}
-use Rattle.rules.specs.Book.{_is_, hasRun, factory, Step, t0Due, t1Due, expired}
+use Rattle.rules.specs.Book.{_is_, hasRun, Step, t0Due, t1Due, expired}
 use Rattle.rules.specs.Asked.{NoRun}
 use Rattle.message.specs.declared.View.{View}
 use Rattle.message.specs.View.{viewOf, view, storedToken, commitIn, message}
@@ -45,9 +45,9 @@ use Rattle.answers.specs.declared.Turn.the-variants.{Refused, Go}
 use Rattle.answers.specs.Answers.{seating}
 use Rattle.answers.proofs.Laws.{Entered, old, new, clashed}
 use Rattle.answers.proofs.Theorems.{Good, found-address}
-use Rattle.calls.specs.Calls.{full, termsOf, brings, noToken, admitStart, startTurn, startStep, killTurn, killStep, admitFrame, frameTurn, frameStep, dueSlot, clockStep}
+use Rattle.calls.specs.Calls.{full, termsOf, clockOf, brings, noToken, admitStart, startTurn, startStep, killTurn, killStep, admitFrame, frameTurn, frameStep, dueSlot, clockStep}
 
--- ---- the table's own address and groups
+-- ---- the table's own address, groups and highest Sync
 
 abbrev pub ownIn : List ℕ → List ℕ
 ownIn t = decodeTable t .header .own
@@ -55,35 +55,64 @@ ownIn t = decodeTable t .header .own
 abbrev pub groupsIn : List ℕ → List ℕ
 groupsIn t = groupsOf (decodeTable t .header)
 
-module _ (t : List ℕ) (s : sound t ≡ true) where
-  two-groups : length (decodeTable t .header .groups) ≡ 2
-  unfolding decodeTable decodeHeader headerOf
-  two-groups = refl
+-- one above its Sync limit
+abbrev pub highIn : List ℕ → ℕ
+highIn t = highSync (decodeTable t .header)
 
-  pub groups-count : length (groupsIn t) ≡ decodeTable t .header .count
-  groups-count = groups-length _ _ two-groups (header-form _ (sound-header t s) .groups)
+-- an entry of 0 stands for the factory's limit
+entry-limit : (x : ℕ) → x ≡ 0 → limitOf x ≡ factoryLimit
+unfolding limitOf
+entry-limit x e = rw e
+
+module _ (t : List ℕ) (s : sound t ≡ true) where
+  settings : SettingsForm (decodeTable t .header .settings)
+  settings = settings-form _ (header-form _ (sound-header t s) .settings)
+
+  three-groups : length (decodeTable t .header .settings .groups) ≡ 3
+  unfolding decodeTable decodeHeader headerOf
+  three-groups = refl
+
+  listed-groups : Groups (decodeTable t .header .settings .count) (decodeTable t .header .settings .groups)
+  listed-groups = groups-form _ _ (settings .groups)
+
+  pub groups-count : length (groupsIn t) ≡ decodeTable t .header .settings .count
+  groups-count = groups-length _ _ three-groups (settings .groups)
+
+  -- the Sync limit is the factory's, and the highest Sync is in its octet's range
+  pub factory-limit : limitOf (decodeTable t .header .settings .limit) ≡ factoryLimit
+  factory-limit = entry-limit _ (settings .limit)
+
+  pub high-low : highIn t < 256
+  high-low = let e = factory-limit in omega arith
 
   pub sound-lists : Lists (groupsIn t)
   sound-lists =
-      let g = groups-form _ _ (header-form _ (sound-header t s) .groups) in
+      let g = listed-groups in
       let n = groups-count in
       let m = g .few in
       record { few = omega (arith, n, m); known = g .known; once = g .once }
 
   -- the first group is a listed one
-  pub first-listed : (0 < length (groupsIn t)) × (getD (groupsIn t) 0 0 ≡ getD (decodeTable t .header .groups) 0 0)
+  pub first-listed : (0 < length (groupsIn t)) × (getD (groupsIn t) 0 0 ≡ getD (decodeTable t .header .settings .groups) 0 0)
   first-listed =
-      let g = groups-form _ _ (header-form _ (sound-header t s) .groups) in
+      let g = listed-groups in
       let n = groups-count in
       let m = g .some in
       (omega (arith, n, m), getD-take _ _ _ _ m)
 
   module _ (b : Bytes t) where
     -- a record of a sound table is its own address's
-    pub slot-kept : (k : ℕ) → k < slots (decodeTable t) → Kept (ownIn t) (groupsIn t) (slot (decodeTable t) k .address) (slot (decodeTable t) k)
+    pub slot-kept : (k : ℕ) → k < slots (decodeTable t) → Kept (ownIn t) (groupsIn t) (highIn t) (slot (decodeTable t) k .address) (slot (decodeTable t) k)
     slot-kept k l =
         let h : k < length (decodeTable t .peers) = omega (arith, peers-held t (slots (decodeTable t)) (sound-whole t s), l) in
         record { fits = fit-slot (decodeTable t) k (fit-decoded t _ b (sound-whole t s)) h; form = sound-peer t s k l; place = λ d. refl }
+
+-- THE TIMES of sound tables are the same: both entries are 0 in each
+pub same-clock : (t u : List ℕ) → sound t ≡ true → sound u ≡ true → (time : ℕ) → clockOf (decodeTable t .header) time ≡ clockOf (decodeTable u .header) time
+same-clock t u s w time =
+    let p : decodeTable t .header .settings .period ≡ decodeTable u .header .settings .period = settings t s .period ∙ sym (settings u w .period) in
+    let l : decodeTable t .header .settings .limit ≡ decodeTable u .header .settings .limit = settings t s .limit ∙ sym (settings u w .limit) in
+    λ i. record { time = time; period = periodOf (p i); limit = limitOf (l i) }
 
 -- ---- what a call that goes on knows
 
@@ -100,13 +129,13 @@ module _ (t a : List ℕ) (b : Bytes t) (la : length a ≡ 6) (ba : Bytes a) whe
   entered-place f e = record { six = la; bytes = ba; usable = entered-usable t a f e }
 
   -- the record that was found is the address's, or a free one
-  pub entered-kept : (f : Found) → Entered t a f → Kept (ownIn t) (groupsIn t) a (lookBy (decodeTable t) f)
+  pub entered-kept : (f : Found) → Entered t a f → Kept (ownIn t) (groupsIn t) (highIn t) a (lookBy (decodeTable t) f)
   unfolding lookBy
   entered-kept f (old {k} e) =
       let x = found-address t a k b la ba e in
       let w = entry-at t a k e in
-      subst (λ (c : List ℕ). Kept (ownIn t) (groupsIn t) c (slot (decodeTable t) k)) (x .1) (slot-kept t (w .0) b k (found-below (decodeTable t) a k (w .1 .1) .0))
-  entered-kept f (new e) = kept-free (ownIn t) (groupsIn t) a
+      subst (λ (c : List ℕ). Kept (ownIn t) (groupsIn t) (highIn t) c (slot (decodeTable t) k)) (x .1) (slot-kept t (w .0) b k (found-below (decodeTable t) a k (w .1 .1) .0))
+  entered-kept f (new e) = kept-free (ownIn t) (groupsIn t) (highIn t) a
 
 -- and is what the address finds
 pub entered-look : (t a : List ℕ) (f : Found) → Entered t a f → lookBy (decodeTable t) f ≡ look (decodeTable t) a
@@ -115,7 +144,7 @@ entered-look t a f (old {k} e) = ap (lookBy (decodeTable t)) (sym (entry-at t a 
 entered-look t a f (new e) = ap (lookBy (decodeTable t)) (sym (entry-absent t a e .1 .1))
 
 -- a step that keeps the form is good
-pub good-of : (t a : List ℕ) (f : Found) (s : Step) → Entered t a f → Keeps (ownIn t) (groupsIn t) a s → (seating (decodeTable t) f ≡ found.Nothing → s .refused ≡ false → s .peer ≡ noPeer)
+pub good-of : (t a : List ℕ) (f : Found) (s : Step) → Entered t a f → Keeps (ownIn t) (groupsIn t) (highIn t) a s → (seating (decodeTable t) f ≡ found.Nothing → s .refused ≡ false → s .peer ≡ noPeer)
     → Good t a f s
 good-of t a f s e k n =
     record { came = e; fits = k .kept .fits; form = k .kept .form; own = λ u. let z : s .peer .used ≡ 1 = eqb-true _ _ u in k .kept .place (λ q. omega arith); stays = n }
@@ -296,9 +325,6 @@ module _ (t a : List ℕ) where
 
 -- ---- Good for every call
 
-limit-fits : factory .limit + 1 ≤ highSync
-limit-fits = lit≤ tt
-
 pub no-run : (p : Peer) → p .run .state ≡ 0 → NoRun p
 no-run p e = record { not-committed = λ q. omega arith; not-confirmed = λ q. omega arith }
 
@@ -310,16 +336,16 @@ initiate-good t a time fresh f b la ba ht bf e =
     let w = start-entered t a fresh (entry t a) f refl e in
     let s = entered-sound t a f (w .0) in
     let T = termsOf (decodeTable t) f in
-    let C = brings a time fresh noToken false in
+    let C = brings a (clockOf (decodeTable t .header) time) fresh noToken false in
     good-of t a f _ (w .0)
-    (begin-keeps T C (lookBy (decodeTable t) f) (entered-place t a b la ba f (w .0)) (sound-lists t s) (first-listed t s .0) limit-fits (entered-kept t a b la ba f (w .0))
+    (begin-keeps T C (lookBy (decodeTable t) f) (entered-place t a b la ba f (w .0)) (sound-lists t s) (first-listed t s .0) (high-low t s) (entered-kept t a b la ba f (w .0))
     (commits-stock (groupsIn t) fresh bf (w .1)) (no-run _ (w .2)))
     (λ v n. absurd (clash (start-refused T C (lookBy (decodeTable t) f) ∙ unseated (decodeTable t) f v .1) n))
 
 -- Kill
 pub kill-good : (t a : List ℕ) (f : Found) → Bytes t → length a ≡ 6 → Bytes a → killTurn (entry t a) ≡ Go f → Good t a f killStep
 unfolding killStep
-kill-good t a f b la ba e = good-of t a f _ (kill-entered t a (entry t a) f refl e) (record { kept = kept-free (ownIn t) (groupsIn t) a }) (λ v n. refl)
+kill-good t a f b la ba e = good-of t a f _ (kill-entered t a (entry t a) f refl e) (record { kept = kept-free (ownIn t) (groupsIn t) (highIn t) a }) (λ v n. refl)
 
 -- Frame received
 pub receive-good : (t a : List ℕ) (time : ℕ) (frame fresh expected : List ℕ) (verdict : ℕ) (f : Found) → Bytes t → length a ≡ 6 → Bytes a → time < 2 ^ 32
@@ -330,7 +356,7 @@ receive-good t a time frame fresh expected verdict f b la ba ht br bf be hv e =
     let w = frame-entered t a frame fresh expected verdict (entry t a) f refl e in
     let s = entered-sound t a f (w .0) in
     let T = termsOf (decodeTable t) f in
-    let C = brings a time fresh expected (verdict is 1) in
+    let C = brings a (clockOf (decodeTable t .header) time) fresh expected (verdict is 1) in
     let p = lookBy (decodeTable t) f in
     let m = message (groupsIn t) frame in
     let h : Handed T C m = record {
@@ -339,7 +365,7 @@ receive-good t a time frame fresh expected verdict f b la ba ht br bf be hv e =
       some = first-listed t s .0;
       heard = view-heard (groupsIn t) frame br;
       counter = viewed (groupsIn t) frame br .counter;
-      limit = limit-fits;
+      low = high-low t s;
     } in
     good-of t a f _ (w .0) (frame-keeps T C p m h (entered-kept t a b la ba f (w .0)) (commits-stock (groupsIn t) fresh bf (w .1)))
     (λ v n. let u = unseated (decodeTable t) f v in frame-unseated T C p m (u .0) (u .1) n)
@@ -350,7 +376,7 @@ module _ (t : List ℕ) (time k : ℕ) (b : Bytes t) (s : sound t ≡ true) (e :
   unfolding dueSlot
   due-below = first-at (λ j. expired (slot (decodeTable t) j) time) (slots (decodeTable t)) k e
 
-  pub due-kept : Kept (ownIn t) (groupsIn t) (slot (decodeTable t) k .address) (slot (decodeTable t) k)
+  pub due-kept : Kept (ownIn t) (groupsIn t) (highIn t) (slot (decodeTable t) k .address) (slot (decodeTable t) k)
   due-kept = slot-kept t s b k (due-below .0)
 
   pub due-used : slot (decodeTable t) k .used ≡ 1
@@ -359,8 +385,8 @@ module _ (t : List ℕ) (time k : ℕ) (b : Bytes t) (s : sound t ≡ true) (e :
     where
       go : (x y u v : Bool) → not (eqb (slot (decodeTable t) k .run .state) 0) ≡ x → not (eqb (slot (decodeTable t) k .link .finished) 0) ≡ y → ((x && u) || (y && v)) ≡ true
           → slot (decodeTable t) k .used ≡ 1
-      go true y u v p q z = run-used (ownIn t) (groupsIn t) _ _ due-kept (eqb-false _ _ (not-true _ p))
-      go false true u v p q z = link-used (ownIn t) (groupsIn t) _ _ due-kept (eqb-false _ _ (not-true _ q))
+      go true y u v p q z = run-used (ownIn t) (groupsIn t) (highIn t) _ _ due-kept (eqb-false _ _ (not-true _ p))
+      go false true u v p q z = link-used (ownIn t) (groupsIn t) (highIn t) _ _ due-kept (eqb-false _ _ (not-true _ q))
       go false false u v p q z = absurd (clash z refl)
 
   -- the search for its address finds it
@@ -373,7 +399,7 @@ module _ (t : List ℕ) (time k : ℕ) (b : Bytes t) (s : sound t ≡ true) (e :
   due-found found.Nothing q = absurd (clash due-holds (none-holds (decodeTable t) _ q k (due-below .0)))
 
   pub due-place : Place (ownIn t) (slot (decodeTable t) k .address)
-  due-place = place-of (ownIn t) (groupsIn t) _ _ due-kept due-used
+  due-place = place-of (ownIn t) (groupsIn t) (highIn t) _ _ due-kept due-used
 
   pub due-entry : entry t (slot (decodeTable t) k .address) ≡ entry-is.At k
   unfolding entry foundEntry
@@ -387,6 +413,6 @@ pub expire-good : (t : List ℕ) (time k : ℕ) → Bytes t → time < 2 ^ 32 �
 unfolding clockStep seating
 expire-good t time k b ht s e =
     good-of t (slot (decodeTable t) k .address) (found.At k) _ (old (due-entry t time k b s e))
-    (expire-keeps (termsOf (decodeTable t) (found.At k)) (brings (slot (decodeTable t) k .address) time [] noToken false) (slot (decodeTable t) k)
-    (due-place t time k b s e) (sound-lists t s) (first-listed t s .0) limit-fits (due-kept t time k b s e))
+    (expire-keeps (termsOf (decodeTable t) (found.At k)) (brings (slot (decodeTable t) k .address) (clockOf (decodeTable t .header) time) [] noToken false)
+    (slot (decodeTable t) k) (due-place t time k b s e) (sound-lists t s) (first-listed t s .0) (high-low t s) (due-kept t time k b s e))
     (λ v n. let z : _≡_ {A = ℕ} 0 1 = cc in absurd (omega arith))

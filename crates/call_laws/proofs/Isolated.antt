@@ -18,24 +18,24 @@ use Rattle.record.specs.declared.Settings.{Settings}
 use Rattle.record.specs.Layout.{groupsOf, noPeer}
 use Rattle.soundness.specs.Soundness.{usable}
 use Rattle.table.specs.Table.{Table, decodeTable, slot, belongs, finds, lookBy, look, sound, entry}
-use Rattle.table.specs.Initial.{initialOk, initial}
+use Rattle.table.specs.Initial.{slotsFor, initialOk, initialTable}
 use Rattle.table.specs.declared.Entry.{Entry}
 use Rattle.table.specs.declared.Entry.the-variants as entry-is
 use Rattle.table.proofs.Laws.{found-below}
 use Rattle.rules.specs.declared.Act.the-variants.{ConfirmAgain, RepeatCommit, EndLink}
-use Rattle.rules.specs.Book.{_is_, hasRun, holds, t0Due, factory, silence, Terms, Call, Step, clockAct, perform, onClock}
+use Rattle.rules.specs.Book.{_is_, hasRun, holds, t0Due, silence, Terms, Call, Step, clockAct, perform, onClock}
 use Rattle.message.specs.View.{view}
 use Rattle.answers.specs.declared.Refusal.{Refusal}
 use Rattle.answers.specs.declared.Refusal.the-variants as why
 use Rattle.answers.specs.declared.Turn.{Turn}
 use Rattle.answers.specs.declared.Turn.the-variants.{Refused, Go}
-use Rattle.answers.specs.Answers.{Left, turned, refuse, refused, said, quiet}
+use Rattle.answers.specs.Answers.{Left, ends, turned, refuse, refused, said, quiet}
 use Rattle.answers.proofs.Laws.{clashed}
 use Rattle.answers.proofs.Ending.{Turned, denied, done, turn-ends}
 use Rattle.writer.specs.Writer.{writesParts, writesRecordBy, writesRecord}
-use Rattle.calls.specs.Calls.{termsOf, initializes, admitStart, startTurn, startStep, initiates, killTurn, killStep, kills, admitFrame, frameTurn, frameStep, receives, dueSlot, clockStep, expires}
+use Rattle.calls.specs.Calls.{termsOf, clockOf, initializes, admitStart, startTurn, startStep, initiates, killTurn, killStep, kills, admitFrame, frameTurn, frameStep, receives, dueSlot, clockStep, expires}
 use Rattle.call_laws.specs.Alike.{SameFor, Alike}
-use Rattle.call_laws.proofs.Good.{initiate-good, kill-good, receive-good}
+use Rattle.call_laws.proofs.Good.{same-clock, initiate-good, kill-good, receive-good}
 use Rattle.call_laws.proofs.Ends.{Came, came, unsound, unusable, lacks, has, finish-answer, said-not, dueLeft, due-answer, takes, clock-ends}
 
 -- ---- both tables come to the same
@@ -132,7 +132,7 @@ terms-same : (t u a : List ℕ) → Alike t u a → (f k : Found) → isNothing 
 terms-same t u a A f k n = go _ _ _ _ _ _ _ _ _ _ (A .same .own) (A .same .groups) (A .crowded) n (A .full)
   where
     go : (o p g h : List ℕ) (c d x y v w : Bool) → o ≡ p → g ≡ h → c ≡ d → x ≡ y → v ≡ w
-        → _≡_ {A = Terms} (record { own = o; groups = g; timing = factory; crowded = c; full = x && v }) (record { own = p; groups = h; timing = factory; crowded = d; full = y && w })
+        → _≡_ {A = Terms} (record { own = o; groups = g; crowded = c; full = x && v }) (record { own = p; groups = h; crowded = d; full = y && w })
     go o p g h c d x y v w e i j k l = cc
 
 -- ---- Start
@@ -147,7 +147,7 @@ module _ (t u a : List ℕ) (A : Alike t u a) where
   start-same : (time : ℕ) (fresh : List ℕ) (f k : Found) → isNothing f ≡ isNothing k → lookBy (decodeTable t) f ≡ lookBy (decodeTable u) k
       → startStep (decodeTable t) f a time fresh ≡ startStep (decodeTable u) k a time fresh
   unfolding startStep
-  start-same time fresh f k n q = let e = terms-same t u a A f k n in rw (q, e)
+  start-same time fresh f k n q = let e = terms-same t u a A f k n in let κ = same-clock t u (A .same .sound₁) (A .same .sound₂) time in rw (q, e, κ)
 
   start-paired : (time : ℕ) (fresh : List ℕ) (E F : Entry) → Met t u a E F
       → Paired (λ f. startStep (decodeTable t) f a time fresh) (λ f. startStep (decodeTable u) f a time fresh) (startTurn E t fresh) (startTurn F u fresh)
@@ -196,7 +196,11 @@ module _ (t u a : List ℕ) (A : Alike t u a) (time : ℕ) (frame fresh expected
   frame-same : (f k : Found) → isNothing f ≡ isNothing k → lookBy (decodeTable t) f ≡ lookBy (decodeTable u) k
       → frameStep (decodeTable t) f a time frame fresh expected verdict ≡ frameStep (decodeTable u) k a time frame fresh expected verdict
   unfolding frameStep
-  frame-same f k n q = let e = terms-same t u a A f k n in let g = A .same .groups in rw (q, e, g)
+  frame-same f k n q =
+      let e = terms-same t u a A f k n in
+      let κ = same-clock t u (A .same .sound₁) (A .same .sound₂) time in
+      let g = A .same .groups in
+      rw (q, e, κ, g)
 
   frame-paired : (E F : Entry) → Met t u a E F
       → Paired (λ f. frameStep (decodeTable t) f a time frame fresh expected verdict) (λ f. frameStep (decodeTable u) f a time frame fresh expected verdict)
@@ -221,10 +225,10 @@ receive-isolated t u a time frame fresh expected verdict bt bu la ba ht br bf be
 
 -- ---- Clock: given which record it takes, that record and the reading alone
 
--- of what the table says, a deadline's act asks the timing alone
+-- of what the table says beside the clock's times, a deadline's act asks nothing
 clock-alone : (T U : Table) (f k : Found) (c : Call) (p : Peer) → onClock (termsOf T f) c p ≡ onClock (termsOf U k) c p
 unfolding onClock clockAct perform
-clock-alone T U f k c p = go (holds (t0Due p (c .time))) (p .run .state is 2)
+clock-alone T U f k c p = go (holds (t0Due p (c .clock .time))) (p .run .state is 2)
   where
     go : (x y : Bool) → perform (termsOf T f) c p silence (if x then (if y then ConfirmAgain else RepeatCommit) else EndLink)
         ≡ perform (termsOf U k) c p silence (if x then (if y then ConfirmAgain else RepeatCommit) else EndLink)
@@ -232,16 +236,16 @@ clock-alone T U f k c p = go (holds (t0Due p (c .time))) (p .run .state is 2)
     go true false = refl
     go false y = refl
 
-clock-same : (T U : Table) (k j time : ℕ) → slot T k ≡ slot U j → clockStep T k time ≡ clockStep U j time
+clock-same : (T U : Table) (k j time : ℕ) → clockOf (T .header) time ≡ clockOf (U .header) time → slot T k ≡ slot U j → clockStep T k time ≡ clockStep U j time
 unfolding clockStep
-clock-same T U k j time q = rw q (clock-alone T U (found.At k) (found.At j) _ (slot U j))
+clock-same T U k j time κ q = rw (q, κ) (clock-alone T U (found.At k) (found.At j) _ (slot U j))
 
 pub expire-isolated : (t u : List ℕ) (time k j : ℕ) → Bytes t → Bytes u → time < 2 ^ 32 → sound t ≡ true → sound u ≡ true
     → dueSlot (decodeTable t) time ≡ found.At k → dueSlot (decodeTable u) time ≡ found.At j → slot (decodeTable t) k ≡ slot (decodeTable u) j
     → Isolated (slot (decodeTable t) k .address) (expires t time) (expires u time)
 expire-isolated t u time k j bt bu ht st su et eu q =
     rw (takes t time k st et, takes u time j su eu)
-    (let w = clock-same (decodeTable t) (decodeTable u) k j time q in
+    (let w = clock-same (decodeTable t) (decodeTable u) k j time (same-clock t u st su time) q in
     record {
       answer = due-answer t time k ∙ ap (λ (s : Step). said s (slot (decodeTable t) k .address)) w ∙ ap (λ (p : Peer). said (clockStep (decodeTable u) j time) (p .address)) q
           ∙ sym (due-answer u time j);
@@ -252,15 +256,16 @@ expire-isolated t u time k j bt bu ht st su et eu q =
 -- ---- Set up looks at no octet of what the buffer held
 
 pub initialize-isolated : (t u own : List ℕ) (s : Settings) → length t ≡ length u → initializes t own s .answer ≡ initializes u own s .answer
-unfolding initializes
+unfolding initializes ends
 initialize-isolated t u own s e = rw e (go (initialOk s own (length u)))
   where
-    go : (b : Bool) → (if b then record { answer = quiet own; table = initial s own t } else refuse t why.Settings) .answer ≡ (if b then record { answer = quiet own; table = initial s own u } else refuse u why.Settings) .answer
+    go : (b : Bool) → (if b then ends (quiet own) (initialTable s own (slotsFor (length u))) else refuse t why.Settings) .answer
+        ≡ (if b then ends (quiet own) (initialTable s own (slotsFor (length u))) else refuse u why.Settings) .answer
     go true = refl
     go false = refl
 
 pub initialize-blind : (t u own : List ℕ) (s : Settings) → length t ≡ length u → initialOk s own (length t) ≡ true → initializes t own s .table ≡ initializes u own s .table
-unfolding initializes initial
+unfolding initializes
 initialize-blind t u own s e w = let v : initialOk s own (length u) ≡ true = subst (λ (n : ℕ). initialOk s own n ≡ true) e w in rw (w, v, e)
 
 -- ---- the writers

@@ -27,7 +27,7 @@ use Rattle.call_laws.specs.Alike.{SameFor, Alike}
 use Rattle.call_laws.specs.Isolation.{PeerCall, initiate, kill, receive, expire, Handed, an-initiate, a-kill, a-receive, an-expire, AllHanded, none, more}
 use Rattle.call_laws.specs.Isolation.{left, after, about, Reach, reach, reaches, answers, Isolation}
 use Rattle.call_laws.proofs.Good.{due-used, due-entry, expire-address}
-use Rattle.call_laws.proofs.Ends.{look-found}
+use Rattle.call_laws.proofs.Ends.{look-found, set-up-leaves}
 use Rattle.call_laws.proofs.Sound.{Keeping, initiate-keeps, kill-keeps, receive-keeps, expire-keeps-due, expire-keeps-none, initialize-makes}
 use Rattle.call_laws.proofs.Isolated.{Isolated, initiate-isolated, kill-isolated, receive-isolated, expire-isolated, write-record-isolated}
 
@@ -56,7 +56,8 @@ module _ (t b u : List ℕ) (K : Keeping t b u) where
       let c : part u 22 1 ≡ part t 22 1 = header-part 16 1 (omega arith) in
       let g : part u 24 2 ≡ part t 24 2 = header-part 18 2 (omega arith) in
       let h : part u 26 2 ≡ part t 26 2 = header-part 20 2 (omega arith) in
-      rw (c, g, h)
+      let i : part u 30 2 ≡ part t 30 2 = header-part 24 2 (omega arith) in
+      rw (c, g, h, i)
 
   keeping-stays : Stays t u
   keeping-stays = record { sound = K .table .sound; bytes = K .bytes; own = own-kept; groups = groups-kept }
@@ -70,7 +71,7 @@ call-stays t (expire time) b s (an-expire ht) = go (dueSlot (decodeTable t) time
   where
     go : (f : Found) → dueSlot (decodeTable t) time ≡ f → Stays t (expires t time .table)
     go (found.At k) e = keeping-stays t (slot (decodeTable t) k .address) _ (expire-keeps-due t time k b ht s e)
-    go found.Nothing e = subst (Stays t) (sym (expire-keeps-none t time e)) (stays-itself t b s)
+    go found.Nothing e = subst (Stays t) (sym (expire-keeps-none t time b e)) (stays-itself t b s)
 
 after-stays : (t : List ℕ) (cs : List PeerCall) → Bytes t → sound t ≡ true → AllHanded cs → Stays t (after t cs)
 unfolding after
@@ -90,7 +91,7 @@ module _ (t a : List ℕ) (b : Bytes t) (s : sound t ≡ true) where
   other-expire time (found.At k) ht e n =
       let i : inUse (slot (decodeTable t) k) ≡ true = eq-eqb _ _ (due-used t time k b s e) in
       expire-keeps-due t time k b ht s e .elsewhere a (rw i at n)
-  other-expire time found.Nothing ht e n = ap (λ (u : List ℕ). look (decodeTable u) a) (expire-keeps-none t time e)
+  other-expire time found.Nothing ht e n = ap (λ (u : List ℕ). look (decodeTable u) a) (expire-keeps-none t time b e)
 
   other-keeps : (c : PeerCall) → Handed c → about a t c ≡ false → look (decodeTable (left t c .table)) a ≡ look (decodeTable t) a
   other-keeps (initiate address time fresh) (an-initiate la ba ht bf) n = initiate-keeps t address time fresh b la ba ht bf s .elsewhere a n
@@ -277,8 +278,7 @@ initial-look s own a n = go (finds (initialTable s own n) a)
 
 initialized : (t own : List ℕ) (s : Settings) → FitSettings s own → initialOk s own (length t) ≡ true
     → decodeTable (initializes t own s .table) ≡ initialTable s own (slotsFor (length t))
-unfolding initializes
-initialized t own s f e = rw e (initial-decoded s own t f e)
+initialized t own s f e = ap decodeTable (set-up-leaves t own s) ∙ initial-decoded s own t f e
 
 pub initialize-same : (t u own a : List ℕ) (s r : Settings) → FitSettings s own → FitSettings r own → s .count ≡ r .count → s .groups ≡ r .groups
     → initialOk s own (length t) ≡ true → initialOk r own (length u) ≡ true → SameFor (initializes t own s .table) (initializes u own r .table) a

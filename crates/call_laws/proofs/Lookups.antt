@@ -151,15 +151,15 @@ module _ (t : List ℕ) (b : Bytes t) (s : sound t ≡ true) where
   free-idle : (k : ℕ) → k < slots (decodeTable t) → inUse (peerAt t k) ≡ false → Idle (peerAt t k)
   unfolding noPeer noRun noLink
   free-idle k l u = elim (ℕ-discrete (peerAt t k .used) 0) [
-    | yes e ↦ let q : peerAt t k ≡ noPeer = peer-unused _ _ (peerAt t k) (shape-peer (slot-fits k l)) (sound-peer t s k l) e in (ap hasRun q, ap hasLink q)
-    | no d ↦ let w = peer-in-use _ _ (peerAt t k) d (sound-peer t s k l) in absurd (clash (eq-eqb _ 1 (w .used)) u)
+    | yes e ↦ let q : peerAt t k ≡ noPeer = peer-unused _ _ _ (peerAt t k) (shape-peer (slot-fits k l)) (sound-peer t s k l) e in (ap hasRun q, ap hasLink q)
+    | no d ↦ let w = peer-in-use _ _ _ (peerAt t k) d (sound-peer t s k l) in absurd (clash (eq-eqb _ 1 (w .used)) u)
   ]
 
   idle-free : (k : ℕ) → k < slots (decodeTable t) → Idle (peerAt t k) → inUse (peerAt t k) ≡ false
   idle-free k l i = elim (ℕ-discrete (peerAt t k .used) 0) [
     | yes e ↦ ne-eqb (peerAt t k .used) 1 (λ z. omega arith)
     | no d ↦
-        let w = peer-in-use _ _ (peerAt t k) d (sound-peer t s k l) in
+        let w = peer-in-use _ _ _ (peerAt t k) d (sound-peer t s k l) in
         let z : (hasRun (peerAt t k) || hasLink (peerAt t k)) ≡ false = rw (i .0, i .1) in
         absurd (clash (w .some) z)
   ]

@@ -18,7 +18,7 @@ use Rattle.frame.specs.declared.Written.the-variants as written-is
 use Rattle.record.specs.declared.Settings.{Settings}
 use Rattle.record.specs.Layout.{groupsOf}
 use Rattle.table.specs.Table.{Table, decodeTable, slot, finds, lookBy, look, sound, entry}
-use Rattle.table.specs.Initial.{initialOk, initial}
+use Rattle.table.specs.Initial.{slotsFor, initialOk, initialTable}
 use Rattle.table.specs.declared.Entry.{Entry}
 use Rattle.table.specs.declared.Entry.the-variants as entry-is
 use Rattle.rules.specs.Book.{_is_, hasRun, Step}
@@ -32,7 +32,7 @@ use Rattle.answers.specs.declared.Turn.the-variants.{Refused, Go}
 use Rattle.answers.specs.declared.Outcome.{Outcome}
 use Rattle.answers.specs.declared.Outcome.the-variants as outcome
 use Rattle.answers.specs.declared.Answer.{Answer}
-use Rattle.answers.specs.Answers.{number, returned, seating, finishAt, finishes, turned, refuse, refused, said, quiet, noneDue}
+use Rattle.answers.specs.Answers.{number, returned, ends, seating, finishAt, finishes, turned, refuse, refused, said, quiet, noneDue}
 use Rattle.writer.specs.declared.Wrote.{Wrote}
 use Rattle.writer.specs.declared.Wrote.the-variants as wrote
 use Rattle.writer.specs.Writer.{refuseOut, wroteOf, draws, writesParts, recordBody, writesRecordBy, writesRecord}
@@ -133,10 +133,10 @@ exact f r o cs x e z w q =
 -- ---- Set up
 
 pub initialize-refuses : (t own : List ℕ) (s : Settings) → initializes t own s .answer .outcome ≡ firstCause outcome.Refused (setUpCauses t own s) outcome.Done
-unfolding initializes firstCause setUpCauses quiet refused
+unfolding initializes firstCause setUpCauses ends quiet refused
 initialize-refuses t own s = go (initialOk s own (length t))
   where
-    go : (b : Bool) → (if b then record { answer = quiet own; table = initial s own t } else refuse t why.Settings) .answer .outcome ≡ (if not b then outcome.Refused why.Settings else outcome.Done)
+    go : (b : Bool) → (if b then ends (quiet own) (initialTable s own (slotsFor (length t))) else refuse t why.Settings) .answer .outcome ≡ (if not b then outcome.Refused why.Settings else outcome.Done)
     go true = refl
     go false = refl
 
@@ -250,7 +250,7 @@ served (found.At k) = outcome.Done
 served found.Nothing = outcome.NoneDue
 
 serve-outcome : (f : Found) (t : List ℕ) (time : ℕ) → expiresBy f t time .answer .outcome ≡ served f
-unfolding expiresBy noneDue said
+unfolding expiresBy ends noneDue said
 serve-outcome (found.At k) t time = ap (λ (r : Answer). r .outcome) (due-answer t time k)
 serve-outcome found.Nothing t time = refl
 
@@ -361,21 +361,21 @@ write-record-exact t a sequence value out = exact returnedBy wrote.Refused _ _ _
 -- ---- A REFUSAL leaves every lent octet
 
 refused-turn : (w : Turn) (g : Found → Step) (t a : List ℕ) (c : Refusal) → turned w g t a .answer .outcome ≡ outcome.Refused c → turned w g t a .table ≡ t
-unfolding turned refused said finishes finishAt
+unfolding turned refused said finishes finishAt ends
 refused-turn (Refused d) g t a c e = refl
 refused-turn (Go f) g t a c e = go (g f .refused) (seating (decodeTable t) f) e
   where
     go : (b : Bool) (x : Found) → (if b then refuse t why.Full else finishAt x t (g f) a) .answer .outcome ≡ outcome.Refused c → (if b then refuse t why.Full else finishAt x t (g f) a) .table ≡ t
     go true x q = refl
     go false (found.At k) q = let z : _≡_ {A = ℕ} 0 1 = cc in absurd (omega arith)
-    go false found.Nothing q = refl
+    go false found.Nothing q = let z : _≡_ {A = ℕ} 0 1 = cc in absurd (omega arith)
 
 pub initialize-refused : (t own : List ℕ) (s : Settings) (c : Refusal) → initializes t own s .answer .outcome ≡ outcome.Refused c → initializes t own s .table ≡ t
-unfolding initializes quiet
+unfolding initializes ends quiet
 initialize-refused t own s c e = go (initialOk s own (length t)) e
   where
-    go : (b : Bool) → (if b then record { answer = quiet own; table = initial s own t } else refuse t why.Settings) .answer .outcome ≡ outcome.Refused c
-        → (if b then record { answer = quiet own; table = initial s own t } else refuse t why.Settings) .table ≡ t
+    go : (b : Bool) → (if b then ends (quiet own) (initialTable s own (slotsFor (length t))) else refuse t why.Settings) .answer .outcome ≡ outcome.Refused c
+        → (if b then ends (quiet own) (initialTable s own (slotsFor (length t))) else refuse t why.Settings) .table ≡ t
     go true q = let z : _≡_ {A = ℕ} 0 1 = cc in absurd (omega arith)
     go false q = refl
 

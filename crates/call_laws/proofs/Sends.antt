@@ -16,6 +16,7 @@ use Rattle.groups.proofs.Laws.{commit-fits}
 use Rattle.frame.specs.Frame.{commitBody, tokenRequestBody, groupRefusalBody, confirmBody}
 use Rattle.frame.specs.Writing.{Drawn, Octets, drawCommit, drawTokenRequest, drawGroupRefusal, drawConfirm, drawCommits, partsBody}
 use Rattle.frame.proofs.RoundTrip.{commit-reads, commit-token-back, commit-back, token-request-reads, token-request-back, group-refusal-reads, confirm-reads, confirm-back}
+use Rattle.record.specs.declared.Counts.{Counts}
 use Rattle.record.specs.declared.Header.{Header}
 use Rattle.record.specs.declared.Run.{Run}
 use Rattle.record.specs.declared.Peer.{Peer}
@@ -36,13 +37,13 @@ use Rattle.answers.specs.declared.Refusal.{Refusal}
 use Rattle.answers.specs.declared.Turn.{Turn}
 use Rattle.answers.specs.declared.Turn.the-variants.{Go}
 use Rattle.answers.specs.declared.Answer.{Answer}
-use Rattle.answers.specs.Answers.{Left, turned, refuse, refused, said, noneDue}
+use Rattle.answers.specs.Answers.{Left, ends, turned, refuse, refused, said, noneDue}
 use Rattle.answers.proofs.Ending.{Finished, Turned, denied, done, turn-ends}
 use Rattle.writer.specs.Writer.{draws, writesParts, recordCommit, recordConfirm, recordBody, writesRecordBy, writesRecord}
 use Rattle.calls.specs.Calls.{startStep, initiates, killTurn, killStep, kills, frameStep, receives, dueSlot, clockStep, expiresBy, expires}
 use Rattle.call_laws.specs.Writable.{CommitWritten, ConfirmWritten, RequestWritten, RefusalWritten, Writable, as-commit, as-confirm, as-request, as-refusal, Writables, write-none, write-one, write-two}
 use Rattle.call_laws.proofs.Ends.{takes, clock-ends}
-use Rattle.call_laws.proofs.Good.{ownIn, groupsIn, slot-kept, entered-usable, entered-kept, start-entered, frame-entered, no-run, viewed, due-kept, due-place, initiate-good, kill-good, receive-good}
+use Rattle.call_laws.proofs.Good.{ownIn, groupsIn, highIn, slot-kept, entered-usable, entered-kept, start-entered, frame-entered, no-run, viewed, due-kept, due-place, initiate-good, kill-good, receive-good}
 
 -- ---- the record of an address
 
@@ -51,7 +52,7 @@ pub record Seen (t a : List ℕ) : Type 0 where
   pub k : ℕ
   pub entry : entry t a ≡ entry-is.At k
   pub slot : slot (decodeTable t) k ≡ look (decodeTable t) a
-  pub kept : Kept (ownIn t) (groupsIn t) (look (decodeTable t) a .address) (look (decodeTable t) a)
+  pub kept : Kept (ownIn t) (groupsIn t) (highIn t) (look (decodeTable t) a .address) (look (decodeTable t) a)
 
 module _ (t a : List ℕ) (b : Bytes t) (s : sound t ≡ true) (q : usable (ownIn t) a ≡ true) where
   seen-by : (f : Found) → finds (decodeTable t) a ≡ f → ((look (decodeTable t) a .run .state ≡ 0) × (look (decodeTable t) a .link .finished ≡ 0) → ⊥) → Seen t a
@@ -62,7 +63,7 @@ module _ (t a : List ℕ) (b : Bytes t) (s : sound t ≡ true) (q : usable (ownI
         k = k;
         entry = rw (s, q, e);
         slot = i;
-        kept = subst (λ (p : Peer). Kept (ownIn t) (groupsIn t) (p .address) p) i (slot-kept t s b k (found-below (decodeTable t) a k e .0));
+        kept = subst (λ (p : Peer). Kept (ownIn t) (groupsIn t) (highIn t) (p .address) p) i (slot-kept t s b k (found-below (decodeTable t) a k e .0));
       }
   seen-by found.Nothing e h = absurd (h (rw e, rw e))
 
@@ -77,14 +78,14 @@ module _ (t a : List ℕ) (b : Bytes t) (s : sound t ≡ true) (q : usable (ownI
 
 -- ---- a run's Commit
 
-module _ (gs : List ℕ) (r : Run) (ok : runOk gs r ≡ true) (d : r .state ≡ 0 → ⊥) where
+module _ (gs : List ℕ) (high : ℕ) (r : Run) (ok : runOk gs high r ≡ true) (d : r .state ≡ 0 → ⊥) where
   run-facts : (listed gs (r .group) ≡ true) × (r .toklen ≤ 256)
-  run-facts = go (run-states gs r ok)
+  run-facts = go (run-states gs high r ok)
     where
       go : (r .state ≡ 0) ⊎ ((r .state ≡ 1) ⊎ (r .state ≡ 2)) → (listed gs (r .group) ≡ true) × (r .toklen ≤ 256)
       go (inl e) = absurd (d e)
-      go (inr (inl e)) = let f = run-is-committed gs r e ok in (f .listed, f .token .short)
-      go (inr (inr e)) = let f = run-is-confirmed gs r e ok in (f .listed, f .token .short)
+      go (inr (inl e)) = let f = run-is-committed gs high r e ok in (f .listed, f .token .short)
+      go (inr (inr e)) = let f = run-is-confirmed gs high r e ok in (f .listed, f .token .short)
 
 draw-commit : (gs : List ℕ) (g : ℕ) (token commit : List ℕ) → listed gs g ≡ true → length token ≤ 256 → length commit ≡ commitLength g → drawCommit gs g token commit ≡ Octets (commitBody g token commit)
 unfolding drawCommit
@@ -128,7 +129,7 @@ module _ (t a : List ℕ) (b : Bytes t) (s : sound t ≡ true) (q : usable (ownI
       commit = take (commitLength g) (p .run .own)
 
       facts : (listed (groupsIn t) (p .run .group) ≡ true) × (p .run .toklen ≤ 256)
-      facts = run-facts (groupsIn t) (p .run) (parts (ownIn t) (groupsIn t) _ p (S .kept) .run) h
+      facts = run-facts (groupsIn t) (highIn t) (p .run) (parts (ownIn t) (groupsIn t) (highIn t) _ p (S .kept) .run) h
 
       small : length token ≤ 256
       small = omega (arith, taken-le (p .run .toklen) (p .run .token), facts .1)
@@ -209,13 +210,13 @@ module _ (t a : List ℕ) (b : Bytes t) (s : sound t ≡ true) (q : usable (ownI
 
 -- ---- the end of a call
 
-own-kept : (h k : Header) (m n : ℕ) → k ≡ counted h m n → k .own ≡ h .own
-own-kept h k m n e = ap (λ (x : Header). x .own) e
+own-kept : (h k : Header) (n : Counts) → k ≡ counted h n → k .own ≡ h .own
+own-kept h k n e = ap (λ (x : Header). x .own) e
 
 finish-writes : (t a : List ℕ) (s : Step) (l : Left) → usable (ownIn t) a ≡ true → Finished t a s l → Truthful s → Writables (l .table) a (l .answer .frames)
 unfolding said
 finish-writes t a s l q F T =
-    let o : ownIn (l .table) ≡ ownIn t = own-kept (decodeTable t .header) (decodeTable (l .table) .header) _ _ (F .header) in
+    let o : ownIn (l .table) ≡ ownIn t = own-kept (decodeTable t .header) (decodeTable (l .table) .header) _ (F .header) in
     subst (Writables (l .table) a) (sym (ap (λ (r : Answer). r .frames) (F .answer)))
     (tells-written (l .table) a (F .bytes) (F .sound) (subst (λ (x : List ℕ). usable x a ≡ true) (sym o) q) (s .frames) (subst (λ (p : Peer). Tells p (s .frames)) (sym (F .here)) (T .tells)))
 
@@ -231,15 +232,15 @@ turn-writes w g t a T (done f e F) = let h = T f e in finish-writes t a (g f) _ 
 -- ---- each call
 
 -- a sound record's run is in one of its states
-kept-states : (own gs a : List ℕ) (p : Peer) → Kept own gs a p → States p
-kept-states own gs a p k = run-states gs (p .run) (parts own gs a p k .run)
+kept-states : (own gs : List ℕ) (high : ℕ) (a : List ℕ) (p : Peer) → Kept own gs high a p → States p
+kept-states own gs high a p k = run-states gs high (p .run) (parts own gs high a p k .run)
 
 pub initiate-writes : (t a : List ℕ) (time : ℕ) (fresh : List ℕ) → Bytes t → length a ≡ 6 → Bytes a → time < 2 ^ 32 → Bytes fresh
     → Writables (initiates t a time fresh .table) a (initiates t a time fresh .answer .frames)
 unfolding initiates startStep
 initiate-writes t a time fresh b la ba ht bf =
     turn-writes _ _ t a
-    (λ f e. let w = start-entered t a fresh (entry t a) f refl e in (entered-usable t a f (w .0), start-tells _ _ _ (kept-states _ _ a _ (entered-kept t a b la ba f (w .0))) (no-run _ (w .2))))
+    (λ f e. let w = start-entered t a fresh (entry t a) f refl e in (entered-usable t a f (w .0), start-tells _ _ _ (kept-states _ _ _ a _ (entered-kept t a b la ba f (w .0))) (no-run _ (w .2))))
     (turn-ends _ _ t a b la ba (λ f e. initiate-good t a time fresh f b la ba ht bf e))
 
 pub receive-writes : (t a : List ℕ) (time : ℕ) (frame fresh expected : List ℕ) (verdict : ℕ) → Bytes t → length a ≡ 6 → Bytes a → time < 2 ^ 32
@@ -250,7 +251,7 @@ receive-writes t a time frame fresh expected verdict b la ba ht br bf be hv =
     turn-writes _ _ t a
     (λ f e.
     let c = frame-entered t a frame fresh expected verdict (entry t a) f refl e .0 in
-    (entered-usable t a f c, frame-tells _ _ _ _ (viewed (groupsIn t) frame br .group) (kept-states _ _ a _ (entered-kept t a b la ba f c))))
+    (entered-usable t a f c, frame-tells _ _ _ _ (viewed (groupsIn t) frame br .group) (kept-states _ _ _ a _ (entered-kept t a b la ba f c))))
     (turn-ends _ _ t a b la ba (λ f e. receive-good t a time frame fresh expected verdict f b la ba ht br bf be hv e))
 
 kill-none : (t a : List ℕ) (r : Answer) → r ≡ said killStep a → Writables t a (r .frames)
@@ -280,10 +281,10 @@ kill-writes t a b la ba = go (turn-ends _ _ t a b la ba (λ f e. kill-good t a f
 module _ (t : List ℕ) (time : ℕ) (b : Bytes t) (ht : time < 2 ^ 32) where
   clock-step-tells : (k : ℕ) → sound t ≡ true → dueSlot (decodeTable t) time ≡ found.At k → Truthful (clockStep (decodeTable t) k time)
   unfolding clockStep
-  clock-step-tells k s e = clock-tells _ _ _ (kept-states _ _ _ _ (due-kept t time k b s e))
+  clock-step-tells k s e = clock-tells _ _ _ (kept-states _ _ _ _ _ (due-kept t time k b s e))
 
   pub expire-writes : Writables (expires t time .table) (expires t time .answer .address) (expires t time .answer .frames)
-  unfolding expires expiresBy refused noneDue
+  unfolding expires expiresBy ends refused noneDue
   expire-writes = go (sound t) refl (dueSlot (decodeTable t) time) refl
     where
       go : (x : Bool) → sound t ≡ x → (f : Found) → dueSlot (decodeTable t) time ≡ f → AtItsAddress (expires t time)

@@ -1,5 +1,5 @@
 -- EVERY CALL on a sound table leaves a sound table with true counts; and A CALL ABOUT ONE PEER leaves every other address its record, octet by octet.
-use mathlib.Core.Path.{_≡_, refl, sym, ap, subst}
+use mathlib.Core.Path.{_≡_, refl, sym, ap, _∙_, subst}
 use mathlib.Core.Logic.{_⊎_, inl, inr}
 use mathlib.Core.Bool.{Bool, true, false}
 use mathlib.Core.List.{List}
@@ -13,31 +13,32 @@ use Rattle.octets.specs.Octets.{Bytes, part, sameAddress}
 use Rattle.octets.specs.declared.Found.{Found}
 use Rattle.octets.specs.declared.Found.the-variants as found
 use Rattle.octets.proofs.Scan.{clash, cases}
+use Rattle.record.specs.declared.Counts.{Counts}
 use Rattle.record.specs.declared.Settings.{Settings}
 use Rattle.record.proofs.Laws.{shape-peer}
-use Rattle.table.specs.Table.{size, decodeTable, slot, slots, inUse, belongs, look, sound}
+use Rattle.table.specs.Table.{size, decodeTable, slot, slots, inUse, belongs, look, placed, sound}
 use Rattle.table.specs.Initial.{initialOk}
 use Rattle.table.proofs.Laws.{entry-at, found-below, sound-whole, free-below-law}
 use Rattle.table.proofs.Kept.{sound-form}
 use Rattle.table.proofs.Octets.{placed-outside}
-use Rattle.table.proofs.Initial.{FitSettings, initial-sound}
+use Rattle.table.proofs.Initial.{FitSettings, initial-sound, initial-refused}
 use Rattle.rules.specs.Book.{Step}
 use Rattle.answers.specs.declared.Refusal.{Refusal}
 use Rattle.answers.specs.declared.Refusal.the-variants as why
 use Rattle.answers.specs.declared.Turn.{Turn}
 use Rattle.answers.specs.declared.Turn.the-variants.{Refused, Go}
-use Rattle.answers.specs.Answers.{Left, seating, finishAt, finishes, turned, refuse}
-use Rattle.answers.proofs.Laws.{Entered, old, new, Sits, there, free, entered-seated, sits, sits-below}
+use Rattle.answers.specs.Answers.{Left, ends, seating, finishAt, finishes, turned, refuse, said}
+use Rattle.answers.proofs.Laws.{Entered, old, new, Sits, there, free, entered-seated, sits, sits-below, unchanged-ends}
 use Rattle.answers.proofs.Theorems.{Good}
 use Rattle.answers.proofs.Ending.{Finished, finish-ends}
 use Rattle.calls.specs.Calls.{dueSlot, initializes, initiates, kills, receives, expiresBy, expires}
 use Rattle.call_laws.specs.Alike.{SoundTable}
-use Rattle.call_laws.proofs.Ends.{takes, clock-ends}
+use Rattle.call_laws.proofs.Ends.{set-up-leaves, takes, clock-ends}
 use Rattle.call_laws.proofs.Good.{initiate-good, kill-good, receive-good, expire-good}
 
 -- a sound table's counts are true
 pub sound-table : (t : List ℕ) → sound t ≡ true → SoundTable t
-sound-table t s = let f = sound-form t s in record { sound = s; used = f .used; opened = f .opened }
+sound-table t s = let f = sound-form t s in record { sound = s; counts = f .counts }
 
 -- ---- what a call leaves: a sound table, every other address's record, and every other record's octets
 
@@ -72,7 +73,7 @@ module _ (t a : List ℕ) (b : Bytes t) (f : Found) (s : Step) (G : Good t a f s
   finish-outside : (at m : ℕ)
       → ((k : ℕ) → k < slots (decodeTable t) → Sits (decodeTable t) k f → ((at + m ≤ 2) ⊎ ((6 ≤ at) × (at + m ≤ 32 + size * k))) ⊎ (32 + size * k + size ≤ at))
       → part (finishes t f s a .table) at m ≡ part t at m
-  unfolding finishes finishAt
+  unfolding finishes finishAt ends placed
   finish-outside at m w = go (s .refused) (seating (decodeTable t) f) refl
     where
       go : (b : Bool) (x : Found) → seating (decodeTable t) f ≡ x → part ((if b then refuse t why.Full else finishAt x t s a) .table) at m ≡ part t at m
@@ -81,8 +82,9 @@ module _ (t a : List ℕ) (b : Bytes t) (f : Found) (s : Step) (G : Good t a f s
           let i = sits (decodeTable t) f k v in
           let S = entered-seated t a f (G .came) in
           let l = sits-below t f k S i in
-          placed-outside t (slots (decodeTable t)) k (s .peer) at m b (sound-whole t (S .whole)) l (shape-peer (G .fits)) (w k l i)
-      go false found.Nothing v = refl
+          placed-outside t (slots (decodeTable t)) k (s .peer) at m b (sound-whole t (S .whole)) l (shape-peer (G .fits))
+          (ap (λ (n : Counts). n .spare) (sound-form t (S .whole) .counts)) (w k l i)
+      go false found.Nothing v = ap (λ (u : List ℕ). part u at m) (unchanged-ends (said s a) t b (entered-seated t a f (G .came) .whole))
 
   finish-octets : (j : ℕ) → j < slots (decodeTable t) → inUse (slot (decodeTable t) j) ≡ true → belongs a (slot (decodeTable t) j) ≡ false
       → part (finishes t f s a .table) (32 + size * j) size ≡ part t (32 + size * j) size
@@ -145,13 +147,13 @@ pub expire-keeps-due : (t : List ℕ) (time k : ℕ) → Bytes t → time < 2 ^ 
 expire-keeps-due t time k b ht s e =
     rw (takes t time k s e) (finish-keeps t (slot (decodeTable t) k .address) b (found.At k) _ (expire-good t time k b ht s e) (clock-ends t time k s e b ht))
 
-pub expire-keeps-none : (t : List ℕ) (time : ℕ) → dueSlot (decodeTable t) time ≡ found.Nothing → expires t time .table ≡ t
+pub expire-keeps-none : (t : List ℕ) (time : ℕ) → Bytes t → dueSlot (decodeTable t) time ≡ found.Nothing → expires t time .table ≡ t
 unfolding expires expiresBy
-expire-keeps-none t time e = rw e (go (sound t))
+expire-keeps-none t time b e = rw e (go (sound t) refl)
   where
-    go : (x : Bool) → (if x then expiresBy found.Nothing t time else refuse t why.Unsound) .table ≡ t
-    go true = refl
-    go false = refl
+    go : (x : Bool) → sound t ≡ x → (if x then expiresBy found.Nothing t time else refuse t why.Unsound) .table ≡ t
+    go true s = unchanged-ends _ t b s
+    go false s = refl
 
 -- EVERY CALL on a sound table leaves a sound table with true counts
 pub initiate-sound : (t a : List ℕ) (time : ℕ) (fresh : List ℕ) → Bytes t → length a ≡ 6 → Bytes a → time < 2 ^ 32 → Bytes fresh → sound t ≡ true → SoundTable (initiates t a time fresh .table)
@@ -169,17 +171,15 @@ expire-sound t time b ht s = go (dueSlot (decodeTable t) time) refl
   where
     go : (f : Found) → dueSlot (decodeTable t) time ≡ f → SoundTable (expires t time .table)
     go (found.At k) e = expire-keeps-due t time k b ht s e .table
-    go found.Nothing e = subst SoundTable (sym (expire-keeps-none t time e)) (sound-table t s)
+    go found.Nothing e = subst SoundTable (sym (expire-keeps-none t time b e)) (sound-table t s)
 
 -- a set up that is not refused makes a sound table, whatever the buffer held; one that is refused leaves the table
 pub initialize-makes : (t own : List ℕ) (s : Settings) → FitSettings s own → initialOk s own (length t) ≡ true → SoundTable (initializes t own s .table)
-unfolding initializes
-initialize-makes t own s f e = rw e (sound-table _ (initial-sound s own t f e))
+initialize-makes t own s f e = subst SoundTable (sym (set-up-leaves t own s)) (sound-table _ (initial-sound s own t f e))
 
 pub initialize-sound : (t own : List ℕ) (s : Settings) → FitSettings s own → sound t ≡ true → SoundTable (initializes t own s .table)
-unfolding initializes
 initialize-sound t own s f w = go (initialOk s own (length t)) refl
   where
     go : (x : Bool) → initialOk s own (length t) ≡ x → SoundTable (initializes t own s .table)
     go true e = initialize-makes t own s f e
-    go false e = rw e (sound-table t w)
+    go false e = subst SoundTable (sym (set-up-leaves t own s ∙ initial-refused s own t e)) (sound-table t w)

@@ -4,16 +4,16 @@ use mathlib.Core.Bool.{true}
 use mathlib.Core.List.{List}
 use Prim.Native.Nat.{ℕ}
 use Rattle.record.specs.Layout.{groupsOf}
-use Rattle.table.specs.Table.{decodeTable, look, sound, usedCount, openCount}
+use Rattle.table.specs.Table.{decodeTable, look, sound, countsOf}
 use Rattle.calls.specs.Calls.{crowded, full}
 
 -- a sound table, whose counts are true
 pub record SoundTable (t : List ℕ) : Type 0 where
   pub sound : sound t ≡ true
-  pub used : decodeTable t .header .used ≡ usedCount (decodeTable t)
-  pub opened : decodeTable t .header .opened ≡ openCount (decodeTable t)
+  pub counts : decodeTable t .header .counts ≡ countsOf (decodeTable t)
 
--- two sound tables that are the same for the address a: own address, groups, and its record; where neither has a record for it, both records are the free one
+-- two sound tables that are the same for the address a: own address, groups, and its record; where neither has a record for it, both records are the free one.
+-- Their first period and Sync limit are the same: in sound tables they are the factory's (`same-clock`).
 pub record SameFor (t u a : List ℕ) : Type 0 where
   pub sound₁ : sound t ≡ true
   pub sound₂ : sound u ≡ true

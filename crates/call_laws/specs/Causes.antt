@@ -19,7 +19,7 @@ use Rattle.message.specs.View.{view, message}
 use Rattle.answers.specs.declared.Refusal.{Refusal}
 use Rattle.answers.specs.declared.Refusal.the-variants as why
 use Rattle.answers.specs.Answers.{number}
-use Rattle.calls.specs.Calls.{termsOf, brings, full}
+use Rattle.calls.specs.Calls.{termsOf, clockOf, brings, full}
 
 -- a cause, and whether it holds
 pub record Cause : Type 0 where
@@ -73,8 +73,8 @@ killCauses t a =
 -- the act that the ladders name for a frame: "New record needed, no free slot" is that it is NoSlot
 unfoldable pub frameNames : List ℕ → List ℕ → ℕ → List ℕ → List ℕ → List ℕ → ℕ → Act
 frameNames t a time frame fresh expected verdict =
-    frameAct (termsOf (decodeTable t) (finds (decodeTable t) a)) (brings a time fresh expected (verdict is 1)) (look (decodeTable t) a)
-    (message (groupsOf (decodeTable t .header)) frame)
+    frameAct (termsOf (decodeTable t) (finds (decodeTable t) a)) (brings a (clockOf (decodeTable t .header) time) fresh expected (verdict is 1))
+    (look (decodeTable t) a) (message (groupsOf (decodeTable t .header)) frame)
 
 unfoldable pub frameCauses : List ℕ → List ℕ → ℕ → List ℕ → List ℕ → List ℕ → ℕ → List Cause
 frameCauses t a time frame fresh expected verdict =

@@ -11,26 +11,27 @@ use Rattle.octets.specs.declared.Found.the-variants as found
 use Rattle.groups.specs.Groups.{freshOk}
 use Rattle.record.specs.declared.Header.{Header}
 use Rattle.record.specs.declared.Settings.{Settings}
-use Rattle.record.specs.Layout.{groupsOf, noPeer}
+use Rattle.record.specs.Layout.{groupsOf, noPeer, periodOf, limitOf}
 use Rattle.record.specs.SettingsOctets.{settingsOf, reservedZero}
 use Rattle.table.specs.Table.{Table, decodeTable, slots, slot, freeSlot, lookBy, sound, entry}
-use Rattle.table.specs.Initial.{initialOk, initial}
+use Rattle.table.specs.Initial.{slotsFor, initialOk, initialTable}
 use Rattle.table.specs.declared.Entry.{Entry}
 use Rattle.table.specs.declared.Entry.the-variants.{Unsound, Unusable, Absent, At}
 use Rattle.rules.specs.declared.Event.the-variants as event
 use Rattle.rules.specs.declared.Frames.the-variants as frames
-use Rattle.rules.specs.Book.{_is_, hasRun, factory, Terms, Call, Step, expired, onStart, onFrame, onClock}
+use Rattle.rules.specs.declared.Clock.{Clock}
+use Rattle.rules.specs.Book.{_is_, hasRun, Terms, Call, Step, expired, onStart, onFrame, onClock}
 use Rattle.message.specs.View.{view, message}
 use Rattle.answers.specs.declared.Refusal.the-variants as why
 use Rattle.answers.specs.declared.Turn.{Turn}
 use Rattle.answers.specs.declared.Turn.the-variants as turn
-use Rattle.answers.specs.Answers.{Left, refuse, quiet, noneDue, finishes, turned}
+use Rattle.answers.specs.Answers.{Left, refuse, quiet, noneDue, ends, finishes, turned}
 
 -- ---- what the table says to a peer's rules, and what a call brings
 
 -- "Open at or above the threshold"
 unfoldable pub crowded : Header → Bool
-crowded h = leb (h .threshold) (h .opened)
+crowded h = leb (h .settings .threshold) (h .counts .opened)
 
 -- no slot is free
 unfoldable pub full : Table → Bool
@@ -39,10 +40,14 @@ full T = isNothing (freeSlot T)
 -- f is where the peer's record is, or that it has none
 abbrev pub termsOf : Table → Found → Terms
 termsOf T f =
-    record { own = T .header .own; groups = groupsOf (T .header); timing = factory; crowded = crowded (T .header); full = isNothing f && full T }
+    record { own = T .header .own; groups = groupsOf (T .header); crowded = crowded (T .header); full = isNothing f && full T }
 
-abbrev pub brings : List ℕ → ℕ → List ℕ → List ℕ → Bool → Call
-brings address time fresh expected verified = record { address = address; time = time; fresh = fresh; expected = expected; verified = verified }
+-- the clock's reading, with the table's first period and Sync limit
+abbrev pub clockOf : Header → ℕ → Clock
+clockOf h time = record { time = time; period = periodOf (h .settings .period); limit = limitOf (h .settings .limit) }
+
+abbrev pub brings : List ℕ → Clock → List ℕ → List ℕ → Bool → Call
+brings address clock fresh expected verified = record { address = address; clock = clock; fresh = fresh; expected = expected; verified = verified }
 
 -- a start and the clock bring no token
 abbrev pub noToken : List ℕ
@@ -52,7 +57,7 @@ noToken = replicate 32 0
 
 unfoldable pub initializes : List ℕ → List ℕ → Settings → Left
 initializes t own s =
-    if initialOk s own (length t) then record { answer = quiet own; table = initial s own t }
+    if initialOk s own (length t) then ends (quiet own) (initialTable s own (slotsFor (length t)))
     else refuse t why.Settings
 
 -- the same from the settings' 16 octets, as C hands them over: a reserved octet that is not 0 is 1 too
@@ -74,7 +79,7 @@ startTurn Absent t fresh = admitStart (decodeTable t) found.Nothing fresh
 startTurn (At k) t fresh = admitStart (decodeTable t) (found.At k) fresh
 
 unfoldable pub startStep : Table → Found → List ℕ → ℕ → List ℕ → Step
-startStep T f address time fresh = onStart (termsOf T f) (brings address time fresh noToken false) (lookBy T f)
+startStep T f address time fresh = onStart (termsOf T f) (brings address (clockOf (T .header) time) fresh noToken false) (lookBy T f)
 
 unfoldable pub initiates : List ℕ → List ℕ → ℕ → List ℕ → Left
 initiates t address time fresh = turned (startTurn (entry t address) t fresh) (λ f. startStep (decodeTable t) f address time fresh) t address
@@ -113,7 +118,7 @@ frameTurn (At k) t frame fresh expected verdict = admitFrame (decodeTable t) (fo
 -- "one verdict, 0 or 1"
 unfoldable pub frameStep : Table → Found → List ℕ → ℕ → List ℕ → List ℕ → List ℕ → ℕ → Step
 frameStep T f address time frame fresh expected verdict =
-    onFrame (termsOf T f) (brings address time fresh expected (verdict is 1)) (lookBy T f) (message (groupsOf (T .header)) frame)
+    onFrame (termsOf T f) (brings address (clockOf (T .header) time) fresh expected (verdict is 1)) (lookBy T f) (message (groupsOf (T .header)) frame)
 
 unfoldable pub receives : List ℕ → List ℕ → ℕ → List ℕ → List ℕ → List ℕ → ℕ → Left
 receives t address time frame fresh expected verdict =
@@ -127,11 +132,11 @@ unfoldable pub dueSlot : Table → ℕ → Found
 dueSlot T time = firstBelow (λ k. expired (slot T k) time) (slots T)
 
 unfoldable pub clockStep : Table → ℕ → ℕ → Step
-clockStep T k time = onClock (termsOf T (found.At k)) (brings (slot T k .address) time [] noToken false) (slot T k)
+clockStep T k time = onClock (termsOf T (found.At k)) (brings (slot T k .address) (clockOf (T .header) time) [] noToken false) (slot T k)
 
 -- "t0 before t1, or says none is due, the rest of its answer zero"
 unfoldable pub expiresBy : Found → List ℕ → ℕ → Left
-expiresBy found.Nothing t time = record { answer = noneDue; table = t }
+expiresBy found.Nothing t time = ends noneDue (decodeTable t)
 expiresBy (found.At k) t time = finishes t (found.At k) (clockStep (decodeTable t) k time) (slot (decodeTable t) k .address)
 
 unfoldable pub expires : List ℕ → ℕ → Left

@@ -1,11 +1,12 @@
 // The clock, "a 32-bit count of milliseconds that wraps": deadlines by wrapping add, the due test by wrapping subtract.
 ghost use mathlib.Core.Path.{_≡_};
-ghost use Prim.Native.Nat.{_≤_};
+ghost use Prim.Native.Nat.{_+_, _≤_};
 ghost use lib.ListN.{length};
 ghost use Rattle.groups.specs.Groups.{width};
 ghost use Rattle.record.specs.Layout.{decodePeer, recordSize};
-ghost use Rattle.rules.specs.Book.{factory, delay, deadline, due, t0Due, expired};
-use record::Settings;
+ghost use Rattle.rules.specs.Book.{delay, deadline, due, t0Due, expired};
+ghost use Rattle.rules.specs.Given.{Paced};
+use rules::Clock;
 
 // Half of the clock's range.
 const HALF: u32 = 2147483648;
@@ -22,12 +23,13 @@ pub fn is_due(time: u32, at: u32) -> bool
 }
 
 // "40 × 2^Sync is worked out": the first period, doubled Sync times.
-fn delay_of(sync: u8) -> u32
-    requires { ⌜ sync ≤ 6 ⌝ }
-    ensures { λ r. ⌜ r ≡ delay factory sync ⌝ }
+fn delay_of(clock: Clock, sync: u8) -> u32
+    requires { ⌜ Paced clock × (sync ≤ clock .limit + 1) ⌝ }
+    ensures { λ r. ⌜ r ≡ delay clock sync ⌝ }
 {
+    let period = clock.period as u32;
     let doublings = sync;
-    Settings::PERIOD << doublings
+    period << doublings
 }
 
 fn after(time: u32, wait: u32) -> u32
@@ -37,11 +39,11 @@ fn after(time: u32, wait: u32) -> u32
 }
 
 // The deadline that "Set t0" sets.
-pub fn t0_at(time: u32, sync: u8) -> u32
-    requires { ⌜ sync ≤ 6 ⌝ }
-    ensures { λ r. ⌜ r ≡ deadline time (delay factory sync) ⌝ }
+pub fn t0_at(clock: Clock, sync: u8) -> u32
+    requires { ⌜ Paced clock × (sync ≤ clock .limit + 1) ⌝ }
+    ensures { λ r. ⌜ r ≡ deadline (clock .time) (delay clock sync) ⌝ }
 {
-    after(time, delay_of(sync))
+    after(clock.time, delay_of(clock, sync))
 }
 
 // "t1 = now + 86,400,000".

@@ -18,7 +18,6 @@ use record::LINK;
 use record::LINK_PEER;
 use record::RUN;
 use record::RUN_OWN;
-use record::Settings;
 use rules::Act;
 use rules::Given;
 
@@ -86,7 +85,7 @@ fn equals_own(s: &[u8], v: View, body: &[u8]) -> bool
 
 // "Commit, no run, in this order"
 pub fn commit_idle(s: &[u8], g: Given, v: View, body: &[u8], groups: &[u16], fresh: &[u8]) -> Act
-    requires { ⌜ Ready (now s) (now groups) (now fresh) (messageOf (now body) v) ⌝ }
+    requires { ⌜ Ready (g .clock) (now s) (now groups) (now fresh) (messageOf (now body) v) ⌝ }
     ensures { λ r. ⌜ r ≡ commitIdle (terms g (now (groups .entry))) (call g (now (fresh .entry))) (decodePeer width (now (s .entry))) (messageOf (now (body .entry)) v) ⌝ }
 {
     let status = v.status;
@@ -143,7 +142,7 @@ pub fn commit_committed(
     groups: &[u16],
     fresh: &[u8],
 ) -> Act
-    requires { ⌜ Ready (now s) (now groups) (now fresh) (messageOf (now body) v) ⌝ }
+    requires { ⌜ Ready (g .clock) (now s) (now groups) (now fresh) (messageOf (now body) v) ⌝ }
     ensures { λ r. ⌜ r ≡ commitCommitted (terms g (now (groups .entry))) (call g (now (fresh .entry))) (decodePeer width (now (s .entry))) (messageOf (now (body .entry)) v) ⌝ }
 {
     let status = v.status;
@@ -195,16 +194,18 @@ pub fn commit_confirmed(
     groups: &[u16],
     fresh: &[u8],
 ) -> Act
-    requires { ⌜ Ready (now s) (now groups) (now fresh) (messageOf (now body) v) ⌝ }
-    ensures { λ r. ⌜ r ≡ commitConfirmed (terms g (now (groups .entry))) (decodePeer width (now (s .entry))) (messageOf (now (body .entry)) v) ⌝ }
+    requires { ⌜ Ready (g .clock) (now s) (now groups) (now fresh) (messageOf (now body) v) ⌝ }
+    ensures { λ r. ⌜ r ≡ commitConfirmed (call g (now (fresh .entry))) (decodePeer width (now (s .entry))) (messageOf (now (body .entry)) v) ⌝ }
 {
     let status = v.status;
     let group = v.group;
+    let clock = g.clock;
+    let limit = clock.limit;
     if status != 0 {
         return Act::Drop;
     }
     let sync = record::sync_of(s);
-    if sync > Settings::SYNC_LIMIT {
+    if sync > limit {
         return Act::GiveUp;
     }
     let our_group = record::group_of(s);
@@ -223,7 +224,7 @@ pub fn confirm_committed(
     groups: &[u16],
     fresh: &[u8],
 ) -> Act
-    requires { ⌜ Ready (now s) (now groups) (now fresh) (messageOf (now body) v) ⌝ }
+    requires { ⌜ Ready (g .clock) (now s) (now groups) (now fresh) (messageOf (now body) v) ⌝ }
     ensures { λ r. ⌜ r ≡ confirmCommitted (messageOf (now (body .entry)) v) ⌝ }
 {
     let status = v.status;
@@ -242,7 +243,7 @@ pub fn confirm_confirmed(
     groups: &[u16],
     fresh: &[u8],
 ) -> Act
-    requires { ⌜ Ready (now s) (now groups) (now fresh) (messageOf (now body) v) ⌝ }
+    requires { ⌜ Ready (g .clock) (now s) (now groups) (now fresh) (messageOf (now body) v) ⌝ }
     ensures { λ r. ⌜ r ≡ confirmConfirmed (call g (now (fresh .entry))) (messageOf (now (body .entry)) v) ⌝ }
 {
     let status = v.status;
@@ -258,17 +259,19 @@ pub fn confirm_confirmed(
 
 // "Link, no run, Confirm"
 pub fn confirm_linked(s: &[u8], g: Given, v: View, body: &[u8], groups: &[u16], fresh: &[u8]) -> Act
-    requires { ⌜ Ready (now s) (now groups) (now fresh) (messageOf (now body) v) ⌝ }
-    ensures { λ r. ⌜ r ≡ confirmLinked (terms g (now (groups .entry))) (call g (now (fresh .entry))) (decodePeer width (now (s .entry))) (messageOf (now (body .entry)) v) ⌝ }
+    requires { ⌜ Ready (g .clock) (now s) (now groups) (now fresh) (messageOf (now body) v) ⌝ }
+    ensures { λ r. ⌜ r ≡ confirmLinked (call g (now (fresh .entry))) (decodePeer width (now (s .entry))) (messageOf (now (body .entry)) v) ⌝ }
 {
     let status = v.status;
     let counter = v.counter;
     let verified = g.verified;
+    let clock = g.clock;
+    let limit = clock.limit;
     if status != 0 {
         return Act::Drop;
     }
     let sync = record::link_sync_of(s);
-    if sync > Settings::SYNC_LIMIT {
+    if sync > limit {
         return Act::EndLink;
     }
     let rc = record::rc_of(s);
@@ -286,7 +289,7 @@ pub fn confirm_linked(s: &[u8], g: Given, v: View, body: &[u8], groups: &[u16], 
 
 // A Commit: "a run takes all frames while it lasts"
 pub fn commit(s: &[u8], g: Given, v: View, body: &[u8], groups: &[u16], fresh: &[u8]) -> Act
-    requires { ⌜ Ready (now s) (now groups) (now fresh) (messageOf (now body) v) ⌝ }
+    requires { ⌜ Ready (g .clock) (now s) (now groups) (now fresh) (messageOf (now body) v) ⌝ }
     ensures { λ r. ⌜ r ≡ commitAct (terms g (now (groups .entry))) (call g (now (fresh .entry))) (decodePeer width (now (s .entry))) (messageOf (now (body .entry)) v) ⌝ }
 {
     let state = record::state_of(s);
@@ -301,8 +304,8 @@ pub fn commit(s: &[u8], g: Given, v: View, body: &[u8], groups: &[u16], fresh: &
 
 // A Confirm: "a run takes all frames while it lasts. Confirm with neither: drop."
 pub fn confirm(s: &[u8], g: Given, v: View, body: &[u8], groups: &[u16], fresh: &[u8]) -> Act
-    requires { ⌜ Ready (now s) (now groups) (now fresh) (messageOf (now body) v) ⌝ }
-    ensures { λ r. ⌜ r ≡ confirmAct (terms g (now (groups .entry))) (call g (now (fresh .entry))) (decodePeer width (now (s .entry))) (messageOf (now (body .entry)) v) ⌝ }
+    requires { ⌜ Ready (g .clock) (now s) (now groups) (now fresh) (messageOf (now body) v) ⌝ }
+    ensures { λ r. ⌜ r ≡ confirmAct (call g (now (fresh .entry))) (decodePeer width (now (s .entry))) (messageOf (now (body .entry)) v) ⌝ }
 {
     let state = record::state_of(s);
     if state == 1 {
@@ -320,7 +323,7 @@ pub fn confirm(s: &[u8], g: Given, v: View, body: &[u8], groups: &[u16], fresh: 
 
 // What a frame calls for
 pub fn frame(s: &[u8], g: Given, v: View, body: &[u8], groups: &[u16], fresh: &[u8]) -> Act
-    requires { ⌜ Ready (now s) (now groups) (now fresh) (messageOf (now body) v) ⌝ }
+    requires { ⌜ Ready (g .clock) (now s) (now groups) (now fresh) (messageOf (now body) v) ⌝ }
     ensures { λ r. ⌜ r ≡ frameAct (terms g (now (groups .entry))) (call g (now (fresh .entry))) (decodePeer width (now (s .entry))) (messageOf (now (body .entry)) v) ⌝ }
 {
     let sequence = v.sequence;

@@ -24,7 +24,7 @@ use Rattle.message.specs.View.{view, message}
 use Rattle.answers.specs.declared.Turn.{Turn}
 use Rattle.answers.specs.declared.Turn.the-variants as turn
 use Rattle.answers.specs.Answers.{number}
-use Rattle.calls.specs.Calls.{termsOf, brings, admitFrame, startStep, frameStep, dueSlot, clockStep}
+use Rattle.calls.specs.Calls.{termsOf, clockOf, brings, admitFrame, startStep, frameStep, dueSlot, clockStep}
 
 -- ---- tables: eight slots, groups 19 and 20, threshold 5
 
@@ -39,18 +39,11 @@ abbrev pub empty : Table
 empty =
     record {
       header = record {
-        slots = 8;
-        used = 0;
-        opened = 0;
-        size = 864;
-        first = 32;
-        spare = replicate 6 0;
+        geometry = record { slots = 8; size = 864; first = 32 };
+        counts = record { used = 0; opened = 0; spare = 0 };
+        spare = 0;
         own = own;
-        count = 2;
-        spare1 = 0;
-        groups = 19 ∷ 20 ∷ [];
-        threshold = 5;
-        spare2 = 0;
+        settings = record { count = 2; groups = 19 ∷ 20 ∷ 0 ∷ []; threshold = 5; period = 0; limit = 0 };
       };
       peers = replicate 8 noPeer;
     }
@@ -206,7 +199,7 @@ started time = startStep empty found.Nothing (address 1) time stock .peer
 -- the act that the ladder names for a frame, heard at a reading from an address whose record is at f
 abbrev pub heard : Table → Found → List ℕ → ℕ → List ℕ → ℕ → Act
 heard T f a time frame verdict =
-    frameAct (termsOf T f) (brings a time stock expected (verdict is 1)) (lookBy T f) (message (groupsOf (T .header)) frame)
+    frameAct (termsOf T f) (brings a (clockOf (T .header) time) stock expected (verdict is 1)) (lookBy T f) (message (groupsOf (T .header)) frame)
 
 abbrev pub sayExpired : Act → Step → List ℕ
 sayExpired a s = named a ∷ eventNumber (s .event) ∷ s .peer .run .sync ∷ framesNumbers (s .frames)

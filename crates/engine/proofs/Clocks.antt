@@ -5,6 +5,7 @@ use mathlib.Core.List.{List, []}
 use Prim.Native.Nat.{ℕ, _<_}
 use lib.ListN.{replicate}
 use borrow.Author.Tests.{not-true}
+use Rattle.octets.specs.Octets.{Bytes}
 use Rattle.octets.specs.Scan.{firstBelow}
 use Rattle.octets.proofs.Scan.{first-at}
 use Rattle.octets.specs.declared.Found.{Found}
@@ -13,6 +14,7 @@ use Rattle.record.specs.declared.Header.{Header}
 use Rattle.record.specs.Layout.{groupsOf}
 use Rattle.table.specs.Table.{Table, decodeTable, encodeTable, recounted, slots, slot, sound, Looked}
 use Rattle.table.proofs.Laws.{looked-sound, looked-header}
+use Rattle.table.proofs.Kept.{recounted-again}
 use Rattle.rules.specs.declared.Given.{Given}
 use Rattle.rules.specs.declared.Said.{Said}
 use Rattle.rules.specs.Book.{expired, onClock}
@@ -20,8 +22,8 @@ use Rattle.rules.specs.Given.{terms, call}
 use Rattle.rule_laws.proofs.Slots.{clock-seated}
 use Rattle.answers.specs.declared.Answer.{Answer}
 use Rattle.answers.specs.declared.Refusal.the-variants as why
-use Rattle.answers.specs.Answers.{Left, Leaves, seating, refused, noneDue, answered, finishes}
-use Rattle.calls.specs.Calls.{dueSlot, clockStep, expiresBy, expires}
+use Rattle.answers.specs.Answers.{Left, Leaves, ends, seating, refused, noneDue, answered, finishes}
+use Rattle.calls.specs.Calls.{clockOf, brings, dueSlot, clockStep, expiresBy, expires}
 use Rattle.engine.specs.InSlot.{Held, givenBy, DoesAt}
 use Rattle.engine.proofs.Windows.{seat-done}
 use Rattle.engine.proofs.Starts.{seated-terms, brought}
@@ -41,7 +43,7 @@ served t h k H u v a time g x r ea eg d w =
     let G : g ≡ givenBy h (slot (decodeTable t) k .address) time (replicate 32 0) false = eg ∙ ap (λ (y : List ℕ). givenBy h y time (replicate 32 0) false) ea in
     subst (λ (y : List ℕ). Leaves r v (finishes t (found.At k) (clockStep (decodeTable t) k time) y)) ea
     (seat-done t (found.At k) k u v a x _ _ r refl (clock-seated _ _ _)
-    ((λ i. onClock (sym T i) (call (givenBy h (slot (decodeTable t) k .address) time (replicate 32 0) false) []) (slot (decodeTable t) k))
+    ((λ i. onClock (sym T i) (brings (slot (decodeTable t) k .address) (clockOf (sym (H .header) i) time) [] (replicate 32 0) false) (slot (decodeTable t) k))
     ∙ (λ i. onClock (terms (givenBy h (ea i) time (replicate 32 0) false) (groupsOf h)) (call (sym G i) []) (slot (decodeTable t) k))
     ∙ (λ i. onClock (terms (sym G i) (groupsOf h)) (call g []) (slot (decodeTable t) k))) d w)
 
@@ -54,9 +56,9 @@ module _ (t : List ℕ) (time : ℕ) (b : Bool) (h : Header) (L : Looked t b h) 
   unfolding expires
   expires-by x e = let z : sound t ≡ true = looked-sound t b h L q in let w : dueSlot (decodeTable t) time ≡ x = sym ed ∙ e in rw (z, w) refl
 
-  pub expire-none : (r : Answer) → d ≡ found.Nothing → r ≡ noneDue → Leaves r t (expires t time)
-  unfolding expiresBy
-  expire-none r e er = subst (λ (l : Left). Leaves r t l) (sym (expires-by found.Nothing e)) (record { answer = er; table = refl })
+  pub expire-none : (r : Answer) → Bytes t → d ≡ found.Nothing → r ≡ noneDue → Leaves r t (expires t time)
+  unfolding expiresBy ends
+  expire-none r y e er = subst (λ (l : Left). Leaves r t l) (sym (expires-by found.Nothing e)) (record { answer = er; table = sym (recounted-again t y (looked-sound t b h L q)) })
 
   below : (k : ℕ) → d ≡ found.At k → k < slots (decodeTable t)
   unfolding dueSlot

@@ -16,7 +16,8 @@ use Rattle.groups.specs.Groups.{width, freshOk}
 use Rattle.record.specs.declared.Header.{Header}
 use Rattle.record.specs.declared.Peer.{Peer}
 use Rattle.record.specs.Layout.{groupsOf, decodePeer, noPeer}
-use Rattle.table.specs.Table.{Table, decodeTable, encodeTable, recounted, slot, lookBy, entry, Enters}
+use Rattle.table.specs.Table.{Table, decodeTable, encodeTable, recounted, slot, lookBy, sound, entry, Enters}
+use Rattle.table.proofs.Kept.{recounted-again}
 use Rattle.table.specs.declared.Entrance.{Entrance}
 use Rattle.table.specs.declared.Entry.{Entry}
 use Rattle.table.specs.declared.Entry.the-variants as entry-is
@@ -34,9 +35,9 @@ use Rattle.answers.specs.declared.Refusal.{Refusal}
 use Rattle.answers.specs.declared.Refusal.the-variants as why
 use Rattle.answers.specs.declared.Turn.{Turn}
 use Rattle.answers.specs.declared.Turn.the-variants.{Refused, Go}
-use Rattle.answers.specs.Answers.{Leaves, refuse, seating, refused, said, answered, finishAt, finishes}
+use Rattle.answers.specs.Answers.{Leaves, ends, refuse, seating, refused, said, answered, finishAt, finishes}
 use Rattle.answers.proofs.Laws.{clashed, turned-refused, turned-go}
-use Rattle.calls.specs.Calls.{termsOf, brings, admitFrame, frameTurn, frameStep, receives}
+use Rattle.calls.specs.Calls.{termsOf, clockOf, brings, admitFrame, frameTurn, frameStep, receives}
 use Rattle.engine.specs.declared.Admitted.{Admitted}
 use Rattle.engine.specs.InSlot.{Held, Met, Stocks, givenBy, slotless, Brought, refusedFrame, AdmitsFrame, TakesFrame, DoesAt, answersOutside}
 use Rattle.engine.proofs.Headers.{enters-met}
@@ -196,13 +197,13 @@ pub outside-says : (h : Header) (g : Given) (m : Message) (fresh s left : List �
 outside-says h g m fresh s left x e d = d .says ∙ ap (λ (p : Peer). saying (onFrame (terms g (groupsOf h)) (call g fresh) p m)) e
 
 -- no slot: the table stays
-outside-leaves : (t : List ℕ) (f : Found) (s : Step) (a : List ℕ) (r : Answer) → seating (decodeTable t) f ≡ found.Nothing → r ≡ answersOutside s a → Leaves r t (finishes t f s a)
-unfolding finishes finishAt
-outside-leaves t f s a r e z = subst (λ (g : Found). Leaves r t (if s .refused then refuse t why.Full else finishAt g t s a)) (sym e) (go (s .refused) z)
+outside-leaves : (t : List ℕ) (f : Found) (s : Step) (a : List ℕ) (r : Answer) → Bytes t → sound t ≡ true → seating (decodeTable t) f ≡ found.Nothing → r ≡ answersOutside s a → Leaves r t (finishes t f s a)
+unfolding finishes finishAt ends
+outside-leaves t f s a r b w e z = subst (λ (g : Found). Leaves r t (if s .refused then refuse t why.Full else finishAt g t s a)) (sym e) (go (s .refused) z)
   where
     go : (b : Bool) → r ≡ (if b then refused why.Full else said s a) → Leaves r t (if b then refuse t why.Full else finishAt found.Nothing t s a)
     go true q = record { answer = q; table = refl }
-    go false q = record { answer = q; table = refl }
+    go false q = record { answer = q; table = sym (recounted-again t b w) }
 
 module _ (t : List ℕ) (h : Header) (f : Found) (H : Held t h f) (g : Given) (B : Brought g h) (m : Message) (fresh : List ℕ) (r : Answer) where
   -- in the slot
@@ -220,13 +221,13 @@ module _ (t : List ℕ) (h : Header) (f : Found) (H : Held t h f) (g : Given) (B
   unfolding lookBy
   look-none e = ap (lookBy (decodeTable t)) (seat-none (decodeTable t) f e .0)
 
-  pub hear-unseated : (j : Found) (y : Given) → j ≡ seating (decodeTable t) f → j ≡ found.Nothing → y ≡ slotless g
+  pub hear-unseated : (j : Found) (y : Given) → Bytes t → j ≡ seating (decodeTable t) f → j ≡ found.Nothing → y ≡ slotless g
       → r ≡ answersOutside (onFrame (terms y (groupsOf h)) (call y fresh) noPeer m) (y .address)
       → Leaves r t (finishes t f (onFrame (termsOf (decodeTable t) f) (call g fresh) (lookBy (decodeTable t) f) m) (g .address))
-  hear-unseated j y p q ey z =
+  hear-unseated j y b p q ey z =
       let e : seating (decodeTable t) f ≡ found.Nothing = sym p ∙ q in
       let T = unseated-terms g h (decodeTable t) f (H .header) B e in
-      outside-leaves t f _ (g .address) r e
+      outside-leaves t f _ (g .address) r b (H .seated .whole) e
       (z ∙ ap (λ (i : Given). answersOutside (onFrame (terms i (groupsOf h)) (call i fresh) noPeer m) (i .address)) ey
       ∙ (λ i. answersOutside (onFrame (T i) (call g fresh) (sym (look-none e) i) m) (g .address)))
 
@@ -237,7 +238,8 @@ pub frame-is : (t : List ℕ) (f : Found) (a : List ℕ) (time : ℕ) (frame fre
 unfolding frameStep message
 frame-is t f a time frame fresh expected token verdict h w g eh ew et eg =
     let W : w ≡ view (groupsOf (decodeTable t .header)) frame = ew ∙ ap (λ (x : Header). view (groupsOf x) frame) eh in
-    let C : call g fresh ≡ brings a time fresh expected (verdict is 1) = ap (λ (x : Given). call x fresh) eg ∙ ap (λ (x : List ℕ). brings a time fresh x (verdict is 1)) et in
+    let C : call g fresh ≡ brings a (clockOf (decodeTable t .header) time) fresh expected (verdict is 1) =
+    ap (λ (x : Given). call x fresh) eg ∙ (λ i. brings a (clockOf (eh i) time) fresh (et i) (verdict is 1)) in
     λ i. onFrame (termsOf (decodeTable t) f) (C i) (lookBy (decodeTable t) f) (messageOf frame (W i))
 
 -- what a call brings

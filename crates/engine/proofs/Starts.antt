@@ -13,17 +13,19 @@ use Rattle.octets.specs.declared.Found.the-variants as found
 use Rattle.groups.specs.Groups.{width, freshOk}
 use Rattle.record.specs.declared.Header.{Header}
 use Rattle.record.specs.declared.Settings.{Settings}
-use Rattle.record.specs.Layout.{groupsOf, decodePeer, recordSize, noPeer, noRun}
+use Rattle.record.specs.Layout.{groupsOf, decodePeer, recordSize, noPeer, noRun, periodOf, limitOf}
 use Rattle.record.proofs.Windows.{no-peer-left}
 use Rattle.table.specs.Table.{Table, decodeTable, encodeTable, recounted, slot, lookBy, entry, Enters}
 use Rattle.table.specs.declared.Entrance.{Entrance}
-use Rattle.table.specs.Initial.{initialOk, initial}
+use Rattle.table.specs.Initial.{slotsFor, initialOk, initial}
+use Rattle.table.proofs.Initial.{initial-ok-form, initial-recounted}
 use Rattle.table.specs.declared.Entry.{Entry}
 use Rattle.table.specs.declared.Entry.the-variants as entry-is
+use Rattle.rules.specs.declared.Clock.{Clock}
 use Rattle.rules.specs.declared.Given.{Given}
 use Rattle.rules.specs.declared.Said.{Said}
 use Rattle.rules.specs.declared.Frames.the-variants as frames
-use Rattle.rules.specs.Book.{factory, hasRun, onStart}
+use Rattle.rules.specs.Book.{hasRun, onStart}
 use Rattle.rules.specs.Given.{terms, call}
 use Rattle.rules.specs.Said.{Does, sayingFrames}
 use Rattle.rule_laws.proofs.Slots.{start-refused, start-seated}
@@ -32,11 +34,11 @@ use Rattle.answers.specs.declared.Refusal.{Refusal}
 use Rattle.answers.specs.declared.Refusal.the-variants as why
 use Rattle.answers.specs.declared.Turn.{Turn}
 use Rattle.answers.specs.declared.Turn.the-variants.{Refused, Go}
-use Rattle.answers.specs.Answers.{Leaves, seating, refused, quiet, answered, finishes, turned}
+use Rattle.answers.specs.Answers.{Leaves, ends, seating, refused, quiet, answered, finishes, turned}
 use Rattle.answers.proofs.Laws.{clashed, full-refused, turned-refused, turned-go}
-use Rattle.calls.specs.Calls.{crowded, full, termsOf, initializes, admitStart, startTurn, startStep, initiates, killTurn, killStep, kills}
-use Rattle.engine.specs.InSlot.{Held, Met, Stocks, givenBy, slotless, Brought, DoesAt}
-use Rattle.engine.proofs.Headers.{held-header, enters-met}
+use Rattle.calls.specs.Calls.{crowded, full, termsOf, clockOf, brings, initializes, admitStart, startTurn, startStep, initiates, killTurn, killStep, kills}
+use Rattle.engine.specs.InSlot.{Held, Met, Stocks, givenBy, slotless, Clocked, Brought, DoesAt}
+use Rattle.engine.proofs.Headers.{held-header, enters-met, held-places}
 use Rattle.engine.proofs.Windows.{look-seat, seat-done}
 
 -- ---- what a rule is given
@@ -53,9 +55,9 @@ seat-none T (found.At j) e = let z : _≡_ {A = ℕ} 0 1 = cc in absurd (omega a
 seat-none T found.Nothing e = (refl, rw e refl)
 
 given-terms : (g : Given) (h : Header) (T : Table) (b : Bool) → h ≡ T .header → g .own ≡ h .own → g .crowded ≡ crowded h → g .full ≡ b
-    → terms g (groupsOf h) ≡ record { own = T .header .own; groups = groupsOf (T .header); timing = factory; crowded = crowded (T .header); full = b }
+    → terms g (groupsOf h) ≡ record { own = T .header .own; groups = groupsOf (T .header); crowded = crowded (T .header); full = b }
 given-terms g h T b e o c f =
-    λ i. record { own = (o ∙ ap (λ (x : Header). x .own) e) i; groups = groupsOf (e i); timing = factory; crowded = (c ∙ ap crowded e) i; full = f i }
+    λ i. record { own = (o ∙ ap (λ (x : Header). x .own) e) i; groups = groupsOf (e i); crowded = (c ∙ ap crowded e) i; full = f i }
 
 pub seated-terms : (g : Given) (h : Header) (T : Table) (f : Found) (k : ℕ) → h ≡ T .header → Brought g h → seating T f ≡ found.At k → terms g (groupsOf h) ≡ termsOf T f
 seated-terms g h T f k e B q = given-terms g h T _ e (B .own) (B .crowded) (B .full ∙ sym (seat-free T f k q))
@@ -64,12 +66,27 @@ pub unseated-terms : (g : Given) (h : Header) (T : Table) (f : Found) → h ≡ 
 unseated-terms g h T f e B q = given-terms (slotless g) h T _ e (B .own) (B .crowded) (sym (seat-none T f q .1))
 
 -- what `given_of` shows
-pub given-law : (h : Header) (a : List ℕ) (time : ℕ) (expected : List ℕ) (v c : Bool) → c ≡ crowded h
-    → _≡_ {A = Given} (record { own = h .own; crowded = c; full = false; address = a; time = time; expected = expected; verified = v }) (givenBy h a time expected v)
-given-law h a time expected v c e = λ i. record { own = h .own; crowded = e i; full = false; address = a; time = time; expected = expected; verified = v }
+pub given-law : (h : Header) (a : List ℕ) (time : ℕ) (expected : List ℕ) (v c : Bool) (κ : Clock) → c ≡ crowded h → κ ≡ clockOf h time
+    → _≡_ {A = Given} (record { own = h .own; crowded = c; full = false; address = a; clock = κ; expected = expected; verified = v }) (givenBy h a time expected v)
+given-law h a time expected v c κ e ek = λ i. record { own = h .own; crowded = e i; full = false; address = a; clock = ek i; expected = expected; verified = v }
+
+pub clock-law : (h : Header) (time p l : ℕ) → p ≡ periodOf (h .settings .period) → l ≡ limitOf (h .settings .limit)
+    → _≡_ {A = Clock} (record { time = time; period = p; limit = l }) (clockOf h time)
+clock-law h time p l ep el = λ i. record { time = time; period = ep i; limit = el i }
+
+-- whatever the clock reads, it goes by the header
+pub clocked : (h : Header) (time : ℕ) → Clocked (clockOf h time) h
+clocked h time = record { period = refl; limit = refl }
 
 pub brought : (h : Header) (a : List ℕ) (time : ℕ) (expected : List ℕ) (v : Bool) → Brought (givenBy h a time expected v) h
-brought h a time expected v = record { own = refl; crowded = refl; full = refl }
+brought h a time expected v = record { clock = clocked h time; own = refl; crowded = refl; full = refl }
+
+pub given-clocked : (h : Header) (a : List ℕ) (time : ℕ) (expected : List ℕ) (v : Bool) (g : Given) → g ≡ givenBy h a time expected v → Clocked (g .clock) h
+given-clocked h a time expected v g e = subst (λ (x : Given). Clocked (x .clock) h) (sym e) (clocked h time)
+
+-- the clock is the call's, whether a slot is there or not
+pub slotless-clocked : (h : Header) (g y : Given) → Brought g h → y ≡ slotless g → Clocked (y .clock) h
+slotless-clocked h g y B e = subst (λ (x : Given). Clocked (x .clock) h) (sym e) (B .clock)
 
 -- ---- the state of a run
 
@@ -119,7 +136,7 @@ goes T f g fresh e = go (freshOk (groupsOf (T .header)) fresh) (hasRun (lookBy T
 
 -- it has a table, a header and fresh commits
 pub stocks : (t : List ℕ) (h : Header) (f : Found) (fresh : List ℕ) → Held t h f → freshOk (groupsOf (decodeTable t .header)) fresh ≡ true → Stocks h fresh
-stocks t h f fresh H e = record { header = held-header t h f H; each = ap (λ (g : Header). freshOk (groupsOf g) fresh) (H .header) ∙ e }
+stocks t h f fresh H e = record { header = held-header t h f H; places = held-places t h f H; each = ap (λ (g : Header). freshOk (groupsOf g) fresh) (H .header) ∙ e }
 
 pub start-goes : (t : List ℕ) (h : Header) (fresh : List ℕ) (E : Entry) (f : Found) → Met t h E → startTurn E t fresh ≡ Go f → Held t h f × Stocks h fresh
 unfolding startTurn
@@ -144,7 +161,7 @@ module _ (t : List ℕ) (h : Header) (f : Found) (H : Held t h f) (a : List ℕ)
       let e : seating (decodeTable t) f ≡ found.At k = sym p ∙ q in
       let T = seated-terms (givenBy h a time (replicate 32 0) false) h (decodeTable t) f k (H .header) (brought h a time (replicate 32 0) false) e in
       let P = look-seat t f k b (H .seated) e in
-      seat-done t f k u v a x _ _ r e (start-seated _ _ _ (seat-free (decodeTable t) f k e)) ((λ i. onStart (sym T i) (call (givenBy h a time (replicate 32 0) false) fresh) (P i)) ∙ (λ i. onStart (terms (sym ey i) (groupsOf h)) (call (sym ey i) fresh) (slot (decodeTable t) k))) d w
+      seat-done t f k u v a x _ _ r e (start-seated _ _ _ (seat-free (decodeTable t) f k e)) ((λ i. onStart (sym T i) (brings a (clockOf (sym (H .header) i) time) fresh (replicate 32 0) false) (P i)) ∙ (λ i. onStart (terms (sym ey i) (groupsOf h)) (call (sym ey i) fresh) (slot (decodeTable t) k))) d w
 
   pub start-full : (g : Found) → g ≡ seating (decodeTable t) f → g ≡ found.Nothing → r ≡ refused why.Full → Leaves r t (finishes t f (startStep (decodeTable t) f a time fresh) a)
   unfolding startStep
@@ -194,8 +211,12 @@ kill-freed t a u e k r p q l = subst (Leaves r u) (sym (kills-by t a e (entry-is
 -- ---- Set up
 
 pub initialize-done : (t own u : List ℕ) (s : Settings) (b : Bool) (r : Answer) → b ≡ initialOk s own (length t) → u ≡ initial s own t → b ≡ true → r ≡ quiet own → Leaves r u (initializes t own s)
-unfolding initializes
-initialize-done t own u s b r eb eu q er = let z : initialOk s own (length t) ≡ true = sym eb ∙ q in rw z (record { answer = er; table = eu })
+unfolding initializes initial ends
+initialize-done t own u s b r eb eu q er =
+    let z : initialOk s own (length t) ≡ true = sym eb ∙ q in
+    let f = initial-ok-form s own (length t) z in
+    let n = initial-recounted s own (slotsFor (length t)) (f .settings) (f .owner) (f .some) (f .few) in
+    rw z (record { answer = er; table = eu ∙ rw z (ap encodeTable (sym n)) })
 
 pub initialize-refused : (t own u : List ℕ) (s : Settings) (b : Bool) (r : Answer) → b ≡ initialOk s own (length t) → u ≡ initial s own t → b ≡ false → r ≡ refused why.Settings → Leaves r u (initializes t own s)
 unfolding initializes initial

@@ -3,16 +3,18 @@ use mathlib.Core.Path.{_≡_}
 use mathlib.Core.Bool.{Bool, true, false}
 use mathlib.Core.List.{List}
 use Prim.Native.Nat.{ℕ, _≤_}
+use lib.ListN.{length}
 use Rattle.octets.specs.Scan.{if_then_else_}
 use Rattle.octets.specs.declared.Found.{Found}
 use Rattle.octets.specs.declared.Found.the-variants as found
 use Rattle.groups.specs.Groups.{freshOk}
 use Rattle.record.specs.declared.Header.{Header}
-use Rattle.record.specs.Layout.{groupsOf}
+use Rattle.record.specs.Layout.{groupsOf, periodOf, limitOf}
 use Rattle.soundness.specs.Soundness.{headerOk}
 use Rattle.table.specs.Table.{Table, decodeTable, withPeer}
 use Rattle.table.specs.declared.Entry.{Entry}
 use Rattle.table.specs.declared.Entry.the-variants as entry-is
+use Rattle.rules.specs.declared.Clock.{Clock}
 use Rattle.rules.specs.declared.Given.{Given}
 use Rattle.rules.specs.declared.Said.{Said}
 use Rattle.rules.specs.Book.{Step}
@@ -23,7 +25,7 @@ use Rattle.answers.specs.declared.Refusal.{Refusal}
 use Rattle.answers.specs.declared.Refusal.the-variants as why
 use Rattle.answers.specs.declared.Turn.the-variants as turn-is
 use Rattle.answers.specs.Answers.{Seated, refused, said}
-use Rattle.calls.specs.Calls.{crowded, admitFrame, frameTurn}
+use Rattle.calls.specs.Calls.{crowded, clockOf, admitFrame, frameTurn}
 use Rattle.engine.specs.declared.Admitted.{Admitted}
 
 -- ---- what was loaded and tested once
@@ -46,12 +48,13 @@ pub record Listing (h : Header) (E : Entry) : Type 0 where
 -- the header of a sound table, and a fresh commit for each of its groups
 pub record Stocks (h : Header) (fresh : List ℕ) : Type 0 where
   pub header : headerOk h ≡ true
+  pub places : length (h .settings .groups) ≡ 3
   pub each : freshOk (groupsOf h) fresh ≡ true
 
 -- what the header and a call give a rule, the peer having a slot, or not
 abbrev pub givenBy : Header → List ℕ → ℕ → List ℕ → Bool → Given
 givenBy h address time expected verified =
-    record { own = h .own; crowded = crowded h; full = false; address = address; time = time; expected = expected; verified = verified }
+    record { own = h .own; crowded = crowded h; full = false; address = address; clock = clockOf h time; expected = expected; verified = verified }
 
 abbrev pub slotless : Given → Given
 slotless g =
@@ -60,13 +63,19 @@ slotless g =
       crowded = g .crowded;
       full = true;
       address = g .address;
-      time = g .time;
+      clock = g .clock;
       expected = g .expected;
       verified = g .verified;
     }
 
+-- a clock goes by the header's first period and Sync limit
+pub record Clocked (κ : Clock) (h : Header) : Type 0 where
+  pub period : κ .period ≡ periodOf (h .settings .period)
+  pub limit : κ .limit ≡ limitOf (h .settings .limit)
+
 -- g says what the header says
 pub record Brought (g : Given) (h : Header) : Type 0 where
+  pub clock : Clocked (g .clock) h
   pub own : g .own ≡ h .own
   pub crowded : g .crowded ≡ crowded h
   pub full : g .full ≡ false

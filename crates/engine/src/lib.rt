@@ -14,8 +14,8 @@ ghost use Rattle.rules.specs.Book.{expired, onStart, onFrame, onClock};
 ghost use Rattle.rules.specs.Given.{terms, call};
 ghost use Rattle.message.specs.View.{messageOf};
 ghost use Rattle.answers.specs.Answers.{Leaves, finishes};
-ghost use Rattle.calls.specs.Calls.{termsOf, crowded, initializes, admitStart, startTurn, startStep, initiates, killStep, kills, receives, dueSlot, clockStep, expires};
-ghost use Rattle.engine.specs.InSlot.{Held, Met, Stocks, Listing, givenBy, slotless, Brought, refusedFrame, AdmitsFrame, TakesFrame, DoesAt, answersOutside};
+ghost use Rattle.calls.specs.Calls.{termsOf, crowded, clockOf, initializes, admitStart, startTurn, startStep, initiates, killStep, kills, receives, dueSlot, clockStep, expires};
+ghost use Rattle.engine.specs.InSlot.{Held, Met, Stocks, Listing, givenBy, slotless, Clocked, Brought, refusedFrame, AdmitsFrame, TakesFrame, DoesAt, answersOutside};
 use answers::Answer;
 use answers::Refusal;
 use answers::Turn;
@@ -25,6 +25,7 @@ use record::HEADER;
 use record::Header;
 use record::RECORD;
 use record::Settings;
+use rules::Clock;
 use rules::Frames;
 use rules::Given;
 use rules::Said;
@@ -46,7 +47,20 @@ pub fn initialize(t: &mut [u8], own: [u8; 6], settings: Settings) -> Answer
 fn is_crowded(h: Header) -> bool
     ensures { λ r. ⌜ r ≡ crowded h ⌝ }
 {
-    h.threshold <= h.opened
+    h.settings.threshold <= h.counts.opened
+}
+
+// The clock's reading, with the table's first period and Sync limit.
+fn clock_of(h: Header, time: u32) -> Clock
+    ensures { λ r. ⌜ r ≡ clockOf h time ⌝ }
+{
+    let period = record::period_of(h.settings.period);
+    let limit = record::limit_of(h.settings.limit);
+    Clock {
+        time: time,
+        period: period,
+        limit: limit,
+    }
 }
 
 // The peer has a slot.
@@ -55,12 +69,13 @@ fn given_of(h: Header, address: [u8; 6], time: u32, expected: [u8; 32], verified
 {
     let own = h.own;
     let crowded = is_crowded(h);
+    let clock = clock_of(h, time);
     Given {
         own: own,
         crowded: crowded,
         full: false,
         address: address,
-        time: time,
+        clock: clock,
         expected: expected,
         verified: verified,
     }
@@ -72,13 +87,14 @@ fn without_slot(g: Given) -> Given
 {
     let own = g.own;
     let address = g.address;
+    let clock = g.clock;
     let expected = g.expected;
     Given {
         own: own,
         crowded: g.crowded,
         full: true,
         address: address,
-        time: g.time,
+        clock: clock,
         expected: expected,
         verified: g.verified,
     }
@@ -102,8 +118,8 @@ fn admit_start(t: &[u8], h: Header, f: Found, fresh: &[u8]) -> Turn
     requires { ⌜ Held (now t) h f ⌝ }
     ensures { λ r. ⌜ r ≡ admitStart (decodeTable (now (t .entry))) f (now (fresh .entry)) ⌝ }
 {
-    let list = h.groups;
-    let n = h.count as usize;
+    let list = h.settings.groups;
+    let n = h.settings.count as usize;
     if !groups::fresh_ok(&list[..n], fresh) {
         return Turn::Refused(Refusal::Fresh);
     }
@@ -129,11 +145,11 @@ fn start_turn(t: &[u8], h: Header, entry: Entry, fresh: &[u8]) -> Turn
 
 // The rule for a start, in a slot.
 fn start_at(t: &mut [u8], k: usize, h: Header, g: Given, fresh: &[u8]) -> Said
-    requires { ⌜ Held (now t) h (At k) × Stocks h (now fresh) ⌝ }
+    requires { ⌜ Held (now t) h (At k) × (Stocks h (now fresh) × Clocked (g .clock) h) ⌝ }
     ensures { λ x. ⌜ DoesAt x (now (t .exit)) (now (t .entry)) k (onStart (terms g (groupsOf h)) (call g (now (fresh .entry))) (slot (decodeTable (now (t .entry))) k)) ⌝ }
 {
-    let list = h.groups;
-    let n = h.count as usize;
+    let list = h.settings.groups;
+    let n = h.settings.count as usize;
     let a = HEADER + RECORD * k;
     let e = a + RECORD;
     machine::on_start(&mut t[a..e], g, &list[..n], fresh)
@@ -144,7 +160,7 @@ fn start(t: &mut [u8], h: Header, f: Found, address: [u8; 6], time: u32, fresh: 
     requires { ⌜ Held (now t) h f × Stocks h (now fresh) ⌝ }
     ensures { λ r. ⌜ Leaves r (now (t .exit)) (finishes (now (t .entry)) f (startStep (decodeTable (now (t .entry))) f address time (now (fresh .entry))) address) ⌝ }
 {
-    let n = h.slots as usize;
+    let n = h.geometry.slots as usize;
     match answers::seat_of(t, n, f) {
         Found::At(k) => {
             let was = table::standing_of(t, k);
@@ -238,8 +254,8 @@ fn admit_frame(
     requires { ⌜ headerOk h ≡ true ⌝ }
     ensures { λ r. ⌜ AdmitsFrame r h f (now (body .entry)) (now (fresh .entry)) (now (expected .entry)) verdict ⌝ }
 {
-    let list = h.groups;
-    let n = h.count as usize;
+    let list = h.settings.groups;
+    let n = h.settings.count as usize;
     if !groups::fresh_ok(&list[..n], fresh) {
         return refuse_frame(Refusal::Fresh);
     }
@@ -291,11 +307,11 @@ fn token_of(expected: &[u8]) -> [u8; 32]
 
 // The rule for a frame, in a slot.
 fn frame_at(t: &mut [u8], k: usize, h: Header, g: Given, v: View, body: &[u8], fresh: &[u8]) -> Said
-    requires { ⌜ Held (now t) h (At k) × (Stocks h (now fresh) × (v .toklen ≤ 256)) ⌝ }
+    requires { ⌜ Held (now t) h (At k) × (Stocks h (now fresh) × (Clocked (g .clock) h × (v .toklen ≤ 256))) ⌝ }
     ensures { λ x. ⌜ DoesAt x (now (t .exit)) (now (t .entry)) k (onFrame (terms g (groupsOf h)) (call g (now (fresh .entry))) (slot (decodeTable (now (t .entry))) k) (messageOf (now (body .entry)) v)) ⌝ }
 {
-    let list = h.groups;
-    let n = h.count as usize;
+    let list = h.settings.groups;
+    let n = h.settings.count as usize;
     let a = HEADER + RECORD * k;
     let e = a + RECORD;
     machine::on_frame(&mut t[a..e], g, v, body, &list[..n], fresh)
@@ -303,11 +319,11 @@ fn frame_at(t: &mut [u8], k: usize, h: Header, g: Given, v: View, body: &[u8], f
 
 // No slot is free for a new peer: the rule works on a free record outside the table.
 fn hear_outside(h: Header, g: Given, v: View, body: &[u8], fresh: &[u8]) -> Answer
-    requires { ⌜ Stocks h (now fresh) × (v .toklen ≤ 256) ⌝ }
+    requires { ⌜ Stocks h (now fresh) × (Clocked (g .clock) h × (v .toklen ≤ 256)) ⌝ }
     ensures { λ r. ⌜ r ≡ answersOutside (onFrame (terms g (groupsOf h)) (call g (now (fresh .entry))) noPeer (messageOf (now (body .entry)) v)) (g .address) ⌝ }
 {
-    let list = h.groups;
-    let n = h.count as usize;
+    let list = h.settings.groups;
+    let n = h.settings.count as usize;
     let address = g.address;
     let mut s = [0u8; RECORD];
     let said = machine::on_frame(&mut s[..], g, v, body, &list[..n], fresh);
@@ -322,7 +338,7 @@ fn hear(t: &mut [u8], h: Header, f: Found, g: Given, v: View, body: &[u8], fresh
     requires { ⌜ Held (now t) h f × (Stocks h (now fresh) × (Brought g h × (v .toklen ≤ 256))) ⌝ }
     ensures { λ r. ⌜ Leaves r (now (t .exit)) (finishes (now (t .entry)) f (onFrame (termsOf (decodeTable (now (t .entry))) f) (call g (now (fresh .entry))) (lookBy (decodeTable (now (t .entry))) f) (messageOf (now (body .entry)) v)) (g .address)) ⌝ }
 {
-    let n = h.slots as usize;
+    let n = h.geometry.slots as usize;
     match answers::seat_of(t, n, f) {
         Found::At(k) => {
             let was = table::standing_of(t, k);
@@ -400,11 +416,11 @@ fn due_slot(t: &[u8], n: usize, time: u32) -> Found
 
 // The rule for a due record, in its slot.
 fn expire_at(t: &mut [u8], k: usize, h: Header, g: Given) -> Said
-    requires { ⌜ Held (now t) h (At k) ⌝ }
+    requires { ⌜ Held (now t) h (At k) × Clocked (g .clock) h ⌝ }
     ensures { λ x. ⌜ DoesAt x (now (t .exit)) (now (t .entry)) k (onClock (terms g (groupsOf h)) (call g []) (slot (decodeTable (now (t .entry))) k)) ⌝ }
 {
-    let list = h.groups;
-    let n = h.count as usize;
+    let list = h.settings.groups;
+    let n = h.settings.count as usize;
     let a = HEADER + RECORD * k;
     let e = a + RECORD;
     machine::on_clock(&mut t[a..e], g, &list[..n])
@@ -433,7 +449,7 @@ pub fn expire(t: &mut [u8], time: u32) -> Answer
         return answers::refuse_with(Refusal::Unsound);
     }
     let h = c.header;
-    let n = h.slots as usize;
+    let n = h.geometry.slots as usize;
     match due_slot(t, n, time) {
         Found::Nothing => answers::none_due(),
         Found::At(k) => serve(t, k, h, time),

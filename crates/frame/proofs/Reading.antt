@@ -38,9 +38,9 @@ module _ (f : Field) (s : List ℕ) (at k : ℕ) (e : f ≡ fieldAt s at) (p : a
   field-reached = ap (λ (x : Field). x .reached) e ∙ ap (λ (i : ℕ). i + 2) p
 
 -- three of them from the start are the head
-pub head-law : (a b c : Field) (s : List ℕ) → a ≡ fieldAt s 0 → b ≡ fieldAt s (a .reached) → c ≡ fieldAt s (b .reached)
+pub head-read : (a b c : Field) (s : List ℕ) → a ≡ fieldAt s 0 → b ≡ fieldAt s (a .reached) → c ≡ fieldAt s (b .reached)
     → record { algorithm = a .number; sequence = b .number; status = c .number; reached = c .reached } ≡ headOf s
-head-law a b c s e f g =
+head-read a b c s e f g =
     let i : a .reached ≡ 2 = field-reached a s 0 0 e refl in
     let j : b .reached ≡ 4 = field-reached b s (a .reached) 2 f i in
     rw (field-number a s 0 0 e refl, field-number b s (a .reached) 2 f i, field-number c s (b .reached) 4 g j, field-reached c s (b .reached) 4 g j)

@@ -50,11 +50,11 @@ unfolding asksDeadline
 asks-unsound t time b e q = let z : sound t ≡ false = sym e ∙ not-true b q in rw z
 
 pub asks-least : (t : List ℕ) (time : ℕ) (b : Bool) (h : Header) → Looked t b h → not b ≡ false → (left : ℕ)
-    → left ≡ leastBelow (λ k. peerLeft (slot (decodeTable t) k) time) (h .slots) → asked.Number left ≡ asksDeadline t time
+    → left ≡ leastBelow (λ k. peerLeft (slot (decodeTable t) k) time) (h .geometry .slots) → asked.Number left ≡ asksDeadline t time
 unfolding asksDeadline nextDeadline
 asks-least t time b h L q left e =
     let z : sound t ≡ true = looked-sound t b h L q in
-    let n : h .slots ≡ slots (decodeTable t) = looked-sized t b h L q .number in
+    let n : h .geometry .slots ≡ slots (decodeTable t) = looked-sized t b h L q .number in
     rw z (ap asked.Number (e ∙ ap (leastBelow (λ k. peerLeft (slot (decodeTable t) k) time)) n))
 
 -- ---- where a record lies

@@ -101,7 +101,7 @@ pub fn next_deadline(t: &[u8], time: u32) -> Asked
         return Asked::Refused(Refusal::Unsound);
     }
     let h = c.header;
-    let n = h.slots as usize;
+    let n = h.geometry.slots as usize;
     let left = left_below(t, n, time);
     Asked::Number(left)
 }

@@ -22,8 +22,8 @@ use Rattle.rules.proofs.Branches.{holds-true, holds-false, answered-true, answe
 use Rattle.rules.proofs.Ladders.{able, frame-asked}
 
 module _ (groups fresh : List ℕ) (g : Given) (p : Peer) (m : Message) (a : Act) (e : a ≡ frameAct (terms g groups) (call g fresh) p m) where
-  pub asked-able : Able a p
-  asked-able = able (terms g groups) (call g fresh) p m a _ refl e (frame-asked (terms g groups) (call g fresh) p m)
+  pub asked-able : Able (g .clock) a p
+  asked-able = able (terms g groups) (call g fresh) p m a _ e (frame-asked (terms g groups) (call g fresh) p m)
 
   pub framed : (x : Said) (left : List ℕ) → Does x left (perform (terms g groups) (call g fresh) p m a) → Does x left (onFrame (terms g groups) (call g fresh) p m)
   unfolding onFrame
@@ -31,29 +31,29 @@ module _ (groups fresh : List ℕ) (g : Given) (p : Peer) (m : Message) (a : Act
 
 -- ---- a deadline
 
-module _ (t : Terms) (c : Call) (p : Peer) (first : Bool) (e : first ≡ t0Due p (c .time)) (x : Said) (left : List ℕ) where
+module _ (t : Terms) (c : Call) (p : Peer) (first : Bool) (e : first ≡ t0Due p (c .clock .time)) (x : Said) (left : List ℕ) where
   pub clock-ends : not first ≡ true → Does x left (endingLink p) → Does x left (onClock t c p)
   unfolding onClock clockAct perform
-  clock-ends q d = let z : holds (t0Due p (c .time)) ≡ false = answered-false _ first e (not-true first q) in rw z d
+  clock-ends q d = let z : holds (t0Due p (c .clock .time)) ≡ false = answered-false _ first e (not-true first q) in rw z d
 
-  pub clock-confirms : (state : ℕ) → not first ≡ false → state ≡ p .run .state → state ≡ 2 → Does x left (confirmingAgain (t .timing) p (c .time)) → Does x left (onClock t c p)
+  pub clock-confirms : (state : ℕ) → not first ≡ false → state ≡ p .run .state → state ≡ 2 → Does x left (confirmingAgain (c .clock) p) → Does x left (onClock t c p)
   unfolding onClock clockAct perform
   clock-confirms state q s k d =
-      let z : holds (t0Due p (c .time)) ≡ true = answered-true _ first e (not-false first q) in
+      let z : holds (t0Due p (c .clock .time)) ≡ true = answered-true _ first e (not-false first q) in
       let y : eqb (p .run .state) 2 ≡ true = eq-eqb _ _ (sym s ∙ k) in
       rw (z, y) d
 
-  pub clock-repeats : (state : ℕ) → not first ≡ false → state ≡ p .run .state → (state ≡ 2 → ⊥) → Does x left (repeatingCommit (t .timing) p (c .time)) → Does x left (onClock t c p)
+  pub clock-repeats : (state : ℕ) → not first ≡ false → state ≡ p .run .state → (state ≡ 2 → ⊥) → Does x left (repeatingCommit (c .clock) p) → Does x left (onClock t c p)
   unfolding onClock clockAct perform
   clock-repeats state q s k d =
-      let z : holds (t0Due p (c .time)) ≡ true = answered-true _ first e (not-false first q) in
+      let z : holds (t0Due p (c .clock .time)) ≡ true = answered-true _ first e (not-false first q) in
       let y : eqb (p .run .state) 2 ≡ false = ne-eqb _ _ (λ i. k (s ∙ i)) in
       rw (z, y) d
 
 -- ---- a start
 
 pub start-begins : (t : Terms) (c : Call) (p : Peer) (x : Said) (left : List ℕ) → t .full ≡ false
-    → Does x left (starting (t .timing) p (c .address) (getD (t .groups) 0 0) (freshAt (c .fresh) 0) (c .time)) → Does x left (onStart t c p)
+    → Does x left (starting (c .clock) p (c .address) (getD (t .groups) 0 0) (freshAt (c .fresh) 0)) → Does x left (onStart t c p)
 unfolding onStart startAct perform
 start-begins t c p x left e d = go (t .full) e
   where

@@ -12,7 +12,7 @@ use rules::Said;
 
 // A frame.
 pub fn on_frame(s: &mut [u8], g: Given, v: View, body: &[u8], groups: &[u16], fresh: &[u8]) -> Said
-    requires { ⌜ Ready (now s) (now groups) (now fresh) (messageOf (now body) v) ⌝ }
+    requires { ⌜ Ready (g .clock) (now s) (now groups) (now fresh) (messageOf (now body) v) ⌝ }
     ensures { λ x. ⌜ Does x (now (s .exit)) (onFrame (terms g (now (groups .entry))) (call g (now (fresh .entry))) (decodePeer width (now (s .entry))) (messageOf (now (body .entry)) v)) ⌝ }
 {
     let act = decide::frame(s, g, v, body, groups, fresh);
@@ -21,24 +21,25 @@ pub fn on_frame(s: &mut [u8], g: Given, v: View, body: &[u8], groups: &[u16], fr
 
 // A deadline of the record is due: "t0 before t1". No frame is there to be decided on, so the ladder's two rungs stand here.
 pub fn on_clock(s: &mut [u8], g: Given, groups: &[u16]) -> Said
-    requires { ⌜ Whole (now s) ⌝ }
+    requires { ⌜ Whole (g .clock) (now s) ⌝ }
     ensures { λ x. ⌜ Does x (now (s .exit)) (onClock (terms g (now (groups .entry))) (call g []) (decodePeer width (now (s .entry)))) ⌝ }
 {
-    let time = g.time;
+    let clock = g.clock;
+    let time = clock.time;
     let first = deadlines::t0_due(s, time);
     if !first {
         return acts::end_link(s);
     }
     let state = record::state_of(s);
     if state == 2 {
-        return perform::confirm_again(s, time);
+        return perform::confirm_again(s, clock);
     }
-    perform::repeat_commit(s, time)
+    perform::repeat_commit(s, clock)
 }
 
 // A start: the ladder's one rung, and the act.
 pub fn on_start(s: &mut [u8], g: Given, groups: &[u16], fresh: &[u8]) -> Said
-    requires { ⌜ Whole (now s) × Stocked (now groups) (now fresh) ⌝ }
+    requires { ⌜ Whole (g .clock) (now s) × Stocked (now groups) (now fresh) ⌝ }
     ensures { λ x. ⌜ Does x (now (s .exit)) (onStart (terms g (now (groups .entry))) (call g (now (fresh .entry))) (decodePeer width (now (s .entry)))) ⌝ }
 {
     let full = g.full;
@@ -46,5 +47,6 @@ pub fn on_start(s: &mut [u8], g: Given, groups: &[u16], fresh: &[u8]) -> Said
         return acts::say_refused();
     }
     let address = g.address;
-    perform::begin(s, address, groups, fresh, g.time)
+    let clock = g.clock;
+    perform::begin(s, address, groups, fresh, clock)
 }

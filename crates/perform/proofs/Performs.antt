@@ -9,45 +9,46 @@ use Rattle.record.specs.Layout.{decodePeer}
 use Rattle.rules.specs.Message.{Message}
 use Rattle.rules.specs.declared.Act.{Act}
 use Rattle.rules.specs.declared.Act.the-variants as act
+use Rattle.rules.specs.declared.Clock.{Clock}
 use Rattle.rules.specs.declared.Frame.{Frame}
 use Rattle.rules.specs.declared.Frames.the-variants.{None, One, Two}
 use Rattle.rules.specs.declared.Said.{Said}
-use Rattle.rules.specs.Book.{Terms, Call, factory, commitFrame, tokenRequestFrame, groupRefusalFrame, confirmFrame, dropping, answering, refusing, abandoning, forming, switching, accepting, endingLink, starting, answeringCommit, confirmingCommit, replyingToken, repeatingCommit, repeatingRefusal, confirmingAgain, resendingBoth, hearingLast, hearingAgain, perform}
+use Rattle.rules.specs.Book.{Terms, Call, commitFrame, tokenRequestFrame, groupRefusalFrame, confirmFrame, dropping, answering, refusing, abandoning, forming, switching, accepting, endingLink, starting, answeringCommit, confirmingCommit, replyingToken, repeatingCommit, repeatingRefusal, confirmingAgain, resendingBoth, hearingLast, hearingAgain, perform}
 use Rattle.rules.specs.Said.{Does, sayingFrames, sayingRefused}
 
 module _ (t : Terms) (c : Call) (p : Peer) (m : Message) (a : Act) (x : Said) (left : List ℕ) where
   named : (b : Act) → a ≡ b → Does x left (perform t c p m b) → Does x left (perform t c p m a)
   named b e d = subst (λ (y : Act). Does x left (perform t c p m y)) (sym e) d
 
-  pub did-answer-commit : a ≡ act.AnswerCommit → Does x left (answeringCommit (t .timing) p (c .address) m (freshFor (t .groups) (c .fresh) (m .group)) (c .time)) → Does x left (perform t c p m a)
+  pub did-answer-commit : a ≡ act.AnswerCommit → Does x left (answeringCommit (c .clock) p (c .address) m (freshFor (t .groups) (c .fresh) (m .group))) → Does x left (perform t c p m a)
   unfolding perform
   did-answer-commit e d = named act.AnswerCommit e d
 
-  pub did-confirm-commit : a ≡ act.ConfirmCommit → Does x left (confirmingCommit (t .timing) p (c .address) m (c .time)) → Does x left (perform t c p m a)
+  pub did-confirm-commit : a ≡ act.ConfirmCommit → Does x left (confirmingCommit (c .clock) p (c .address) m) → Does x left (perform t c p m a)
   unfolding perform
   did-confirm-commit e d = named act.ConfirmCommit e d
 
-  pub did-reply-token : a ≡ act.ReplyToken → Does x left (replyingToken (t .timing) p m (c .time)) → Does x left (perform t c p m a)
+  pub did-reply-token : a ≡ act.ReplyToken → Does x left (replyingToken (c .clock) p m) → Does x left (perform t c p m a)
   unfolding perform
   did-reply-token e d = named act.ReplyToken e d
 
-  pub did-switch-group : a ≡ act.SwitchGroup → Does x left (switching (t .timing) p (t .groups) (c .fresh) (c .time)) → Does x left (perform t c p m a)
+  pub did-switch-group : a ≡ act.SwitchGroup → Does x left (switching (c .clock) p (t .groups) (c .fresh)) → Does x left (perform t c p m a)
   unfolding perform
   did-switch-group e d = named act.SwitchGroup e d
 
-  pub did-repeat-commit : a ≡ act.RepeatCommit → Does x left (repeatingCommit (t .timing) p (c .time)) → Does x left (perform t c p m a)
+  pub did-repeat-commit : a ≡ act.RepeatCommit → Does x left (repeatingCommit (c .clock) p) → Does x left (perform t c p m a)
   unfolding perform
   did-repeat-commit e d = named act.RepeatCommit e d
 
-  pub did-repeat-refusal : a ≡ act.RepeatRefusal → Does x left (repeatingRefusal (t .timing) p (m .group) (c .time)) → Does x left (perform t c p m a)
+  pub did-repeat-refusal : a ≡ act.RepeatRefusal → Does x left (repeatingRefusal (c .clock) p (m .group)) → Does x left (perform t c p m a)
   unfolding perform
   did-repeat-refusal e d = named act.RepeatRefusal e d
 
-  pub did-resend-both : a ≡ act.ResendBoth → Does x left (resendingBoth (t .timing) p (c .time)) → Does x left (perform t c p m a)
+  pub did-resend-both : a ≡ act.ResendBoth → Does x left (resendingBoth (c .clock) p) → Does x left (perform t c p m a)
   unfolding perform
   did-resend-both e d = named act.ResendBoth e d
 
-  pub did-confirm-again : a ≡ act.ConfirmAgain → Does x left (confirmingAgain (t .timing) p (c .time)) → Does x left (perform t c p m a)
+  pub did-confirm-again : a ≡ act.ConfirmAgain → Does x left (confirmingAgain (c .clock) p) → Does x left (perform t c p m a)
   unfolding perform
   did-confirm-again e d = named act.ConfirmAgain e d
 
@@ -55,7 +56,7 @@ module _ (t : Terms) (c : Call) (p : Peer) (m : Message) (a : Act) (x : Said) (l
   unfolding perform
   did-give-up e d = named act.GiveUp e d
 
-  pub did-accept : a ≡ act.Accept → Does x left (accepting p (m .counter) (c .time)) → Does x left (perform t c p m a)
+  pub did-accept : a ≡ act.Accept → Does x left (accepting p (m .counter) (c .clock .time)) → Does x left (perform t c p m a)
   unfolding perform
   did-accept e d = named act.Accept e d
 
@@ -71,7 +72,7 @@ module _ (t : Terms) (c : Call) (p : Peer) (m : Message) (a : Act) (x : Said) (l
   unfolding perform
   did-end-link e d = named act.EndLink e d
 
-  pub did-begin : a ≡ act.Begin → Does x left (starting (t .timing) p (c .address) (getD (t .groups) 0 0) (freshAt (c .fresh) 0) (c .time)) → Does x left (perform t c p m a)
+  pub did-begin : a ≡ act.Begin → Does x left (starting (c .clock) p (c .address) (getD (t .groups) 0 0) (freshAt (c .fresh) 0)) → Does x left (perform t c p m a)
   unfolding perform
   did-begin e d = named act.Begin e d
 
@@ -96,16 +97,16 @@ module _ (t : Terms) (c : Call) (s : List ℕ) (m : Message) (a : Act) (x : Said
 -- ---- the leaves
 
 module _ (x : Said) (left : List ℕ) (p : Peer) where
-  pub answer-law : (address : List ℕ) (m : Message) (own theirs gs fresh : List ℕ) (time : ℕ) (f k : Frame) → own ≡ freshFor gs fresh (m .group) → theirs ≡ m .commit → f ≡ commitFrame (m .group) → k ≡ confirmFrame 1
-      → Does x left (forming factory p address (m .group) own theirs (Two f k) (m .group) time) → Does x left (answeringCommit factory p address m (freshFor gs fresh (m .group)) time)
+  pub answer-law : (address : List ℕ) (m : Message) (own theirs gs fresh : List ℕ) (κ : Clock) (f k : Frame) → own ≡ freshFor gs fresh (m .group) → theirs ≡ m .commit → f ≡ commitFrame (m .group) → k ≡ confirmFrame 1
+      → Does x left (forming κ p address (m .group) own theirs (Two f k) (m .group)) → Does x left (answeringCommit κ p address m (freshFor gs fresh (m .group)))
   unfolding answeringCommit
-  answer-law address m own theirs gs fresh time f k e h q r d = subst (Does x left) (λ i. forming factory p address (m .group) (e i) (h i) (Two (q i) (r i)) (m .group) time) d
+  answer-law address m own theirs gs fresh κ f k e h q r d = subst (Does x left) (λ i. forming κ p address (m .group) (e i) (h i) (Two (q i) (r i)) (m .group)) d
 
-  pub confirm-law : (address : List ℕ) (m : Message) (own theirs : List ℕ) (time : ℕ) (f : Frame) → own ≡ p .run .own → theirs ≡ m .commit → f ≡ confirmFrame 1
-      → Does x left (forming factory p address (m .group) own theirs (One f) 0 time) → Does x left (confirmingCommit factory p address m time)
+  pub confirm-law : (address : List ℕ) (m : Message) (own theirs : List ℕ) (κ : Clock) (f : Frame) → own ≡ p .run .own → theirs ≡ m .commit → f ≡ confirmFrame 1
+      → Does x left (forming κ p address (m .group) own theirs (One f) 0) → Does x left (confirmingCommit κ p address m)
   unfolding confirmingCommit
-  confirm-law address m own theirs time f e h q d = subst (Does x left) (λ i. forming factory p address (m .group) (e i) (h i) (One (q i)) 0 time) d
+  confirm-law address m own theirs κ f e h q d = subst (Does x left) (λ i. forming κ p address (m .group) (e i) (h i) (One (q i)) 0) d
 
-  pub begin-law : (address own gs fresh : List ℕ) (time : ℕ) → own ≡ freshAt fresh 0 → Does x left (starting factory p address (getD gs 0 0) own time)
-      → Does x left (starting factory p address (getD gs 0 0) (freshAt fresh 0) time)
-  begin-law address own gs fresh time e d = subst (λ (o : List ℕ). Does x left (starting factory p address (getD gs 0 0) o time)) e d
+  pub begin-law : (address own gs fresh : List ℕ) (κ : Clock) → own ≡ freshAt fresh 0 → Does x left (starting κ p address (getD gs 0 0) own)
+      → Does x left (starting κ p address (getD gs 0 0) (freshAt fresh 0))
+  begin-law address own gs fresh κ e d = subst (λ (o : List ℕ). Does x left (starting κ p address (getD gs 0 0) o)) e d

@@ -13,59 +13,60 @@ use Rattle.record.specs.Codec.{cut, total}
 use Rattle.record.specs.Layout.{decodeRun, decodeLink, decodePeer, linkOf, linkWidths, runSize, linkSize, recordSize}
 use Rattle.record.specs.declared.Peer.{Peer}
 use Rattle.record.proofs.Windows.{laid, laid-put, run-window, run-left, link-window, link-left}
+use Rattle.rules.specs.declared.Clock.{Clock}
 use Rattle.rules.specs.declared.Frame.{Frame}
 use Rattle.rules.specs.declared.Frames.{Frames}
 use Rattle.rules.specs.declared.Frames.the-variants.{None, One, Two}
 use Rattle.rules.specs.declared.Said.{Said}
 use Rattle.rules.specs.Parts.{withSync, withSc, withToken, heardAgain, withRun, withLink}
 use Rattle.rules.specs.Message.{Message}
-use Rattle.rules.specs.Book.{Timing, factory, commitFrame, groupRefusalFrame, confirmFrame, sending, answering, abandoning, retransmitting, repeatingCommit, repeatingRefusal, confirmingAgain, replyingToken, resendingBoth, hearingLast, hearingAgain}
+use Rattle.rules.specs.Book.{commitFrame, groupRefusalFrame, confirmFrame, sending, answering, abandoning, retransmitting, repeatingCommit, repeatingRefusal, confirmingAgain, replyingToken, resendingBoth, hearingLast, hearingAgain}
 use Rattle.rules.specs.Said.{sayingFrames, Does}
 
 -- ---- "Repeat", and what is sent with it
 
-module _ (τ : Timing) (p : Peer) (time : ℕ) (x : Said) (left : List ℕ) where
+module _ (κ : Clock) (p : Peer) (x : Said) (left : List ℕ) where
   pub repeat-commit-law : (g sc : ℕ) (f : Frame) → g ≡ p .run .group → sc ≡ p .run .sc → f ≡ commitFrame g →
-      Does x left (retransmitting τ p (withSc (p .run) sc) (One f) time) → Does x left (repeatingCommit τ p time)
+      Does x left (retransmitting κ p (withSc (p .run) sc) (One f)) → Does x left (repeatingCommit κ p)
   unfolding repeatingCommit withSc
   repeat-commit-law g sc f a b e h =
       let q : f ≡ commitFrame (p .run .group) = e ∙ ap commitFrame a in
-      subst (Does x left) (λ i. retransmitting τ p (withSc (p .run) (b i)) (One (q i)) time) h
+      subst (Does x left) (λ i. retransmitting κ p (withSc (p .run) (b i)) (One (q i))) h
 
   pub repeat-refusal-law : (g sc : ℕ) (f : Frame) → sc ≡ p .run .sc → f ≡ groupRefusalFrame g →
-      Does x left (retransmitting τ p (withSc (p .run) sc) (One f) time) → Does x left (repeatingRefusal τ p g time)
+      Does x left (retransmitting κ p (withSc (p .run) sc) (One f)) → Does x left (repeatingRefusal κ p g)
   unfolding repeatingRefusal withSc
-  repeat-refusal-law g sc f b e h = subst (Does x left) (λ i. retransmitting τ p (withSc (p .run) (b i)) (One (e i)) time) h
+  repeat-refusal-law g sc f b e h = subst (Does x left) (λ i. retransmitting κ p (withSc (p .run) (b i)) (One (e i))) h
 
   pub confirm-again-law : (sc : ℕ) (f : Frame) → sc ≡ p .run .sc → f ≡ confirmFrame (sc + 1) →
-      Does x left (retransmitting τ p (withSc (p .run) (sc + 1)) (One f) time) → Does x left (confirmingAgain τ p time)
+      Does x left (retransmitting κ p (withSc (p .run) (sc + 1)) (One f)) → Does x left (confirmingAgain κ p)
   unfolding confirmingAgain
   confirm-again-law sc f b e h =
       let q : f ≡ confirmFrame (p .run .sc + 1) = e ∙ ap (λ (n : ℕ). confirmFrame (n + 1)) b in
-      subst (Does x left) (λ i. retransmitting τ p (withSc (p .run) (b i + 1)) (One (q i)) time) h
+      subst (Does x left) (λ i. retransmitting κ p (withSc (p .run) (b i + 1)) (One (q i))) h
 
   pub resend-law : (g sync sc : ℕ) (f k : Frame) → g ≡ p .run .group → sync ≡ p .run .sync → sc ≡ p .run .sc → f ≡ commitFrame g → k ≡ confirmFrame (sc + 1) →
-      Does x left (sending τ p (withSync (withSc (p .run) (sc + 1)) (sync + 1)) (Two f k) 0 time) → Does x left (resendingBoth τ p time)
+      Does x left (sending κ p (withSync (withSc (p .run) (sc + 1)) (sync + 1)) (Two f k) 0) → Does x left (resendingBoth κ p)
   unfolding resendingBoth
   resend-law g sync sc f k a b d e j h =
       let q : f ≡ commitFrame (p .run .group) = e ∙ ap commitFrame a in
       let r : k ≡ confirmFrame (p .run .sc + 1) = j ∙ ap (λ (n : ℕ). confirmFrame (n + 1)) d in
-      subst (Does x left) (λ i. sending τ p (withSync (withSc (p .run) (d i + 1)) (b i + 1)) (Two (q i) (r i)) 0 time) h
+      subst (Does x left) (λ i. sending κ p (withSync (withSc (p .run) (d i + 1)) (b i + 1)) (Two (q i) (r i)) 0) h
 
 -- a token is stored in the run's window, and then the Commit is repeated
-stored-repeats : (τ : Timing) (p : Peer) (m : Message) (time : ℕ) → repeatingCommit τ (withRun p (withToken (p .run) (m .toklen) (m .token))) time ≡ replyingToken τ p m time
+stored-repeats : (κ : Clock) (p : Peer) (m : Message) → repeatingCommit κ (withRun p (withToken (p .run) (m .toklen) (m .token))) ≡ replyingToken κ p m
 unfolding repeatingCommit replyingToken retransmitting abandoning sending withRun withToken
-stored-repeats τ p m time = refl
+stored-repeats κ p m = refl
 
-pub reply-token-law : (x : Said) (s y left : List ℕ) (m : Message) (token : List ℕ) (time : ℕ) → token ≡ m .token →
+pub reply-token-law : (x : Said) (s y left : List ℕ) (m : Message) (token : List ℕ) (κ : Clock) → token ≡ m .token →
     decodeRun width y ≡ withToken (decodeRun width (take (runSize width) (drop 7 s))) (m .toklen) token → length s ≡ recordSize width → length y ≡ runSize width →
-    Does x left (repeatingCommit factory (decodePeer width (putMid 7 (runSize width) s y)) time) → Does x left (replyingToken factory (decodePeer width s) m time)
+    Does x left (repeatingCommit κ (decodePeer width (putMid 7 (runSize width) s y))) → Does x left (replyingToken κ (decodePeer width s) m)
 unfolding withRun
-reply-token-law x s y left m token time o e h k d =
+reply-token-law x s y left m token κ o e h k d =
     let p = decodePeer width s in
     let r : decodeRun width y ≡ withToken (p .run) (m .toklen) (m .token) = e ∙ (λ i. withToken (run-window s h i) (m .toklen) (o i)) in
     let q : decodePeer width (putMid 7 (runSize width) s y) ≡ withRun p (withToken (p .run) (m .toklen) (m .token)) = run-left s h y _ k r in
-    subst (Does x left) (ap (λ (u : Peer). repeatingCommit factory u time) q ∙ stored-repeats factory p m time) d
+    subst (Does x left) (ap (λ (u : Peer). repeatingCommit κ u) q ∙ stored-repeats κ p m) d
 
 -- ---- the link with another Rc and Sync
 

@@ -9,10 +9,11 @@ use Rattle.groups.specs.declared.Choice.{Choice}
 use Rattle.groups.specs.declared.Choice.the-variants as choice
 use Rattle.groups.proofs.Laws.{chosen}
 use Rattle.record.specs.declared.Peer.{Peer}
+use Rattle.rules.specs.declared.Clock.{Clock}
 use Rattle.rules.specs.declared.Frames.the-variants.{One}
 use Rattle.rules.specs.declared.Said.{Said}
 use Rattle.rules.specs.Parts.{switched}
-use Rattle.rules.specs.Book.{Timing, commitFrame, sending, abandoning, switchingTo, switching}
+use Rattle.rules.specs.Book.{commitFrame, sending, abandoning, switchingTo, switching}
 use Rattle.rules.specs.Said.{Does}
 
 pub switch-room :
@@ -22,30 +23,30 @@ switch-room gs n rejected k g x a b h =
     let l : k < length gs = chosen gs rejected k g e .0 in
     omega arith
 
-to-group : (τ : Timing) (p : Peer) (rejected k g : ℕ) (fresh : List ℕ) (time : ℕ) →
-    switchingTo τ p rejected (choice.Group k g) fresh time ≡ sending τ p (switched (p .run) rejected g (freshAt fresh k)) (One (commitFrame g)) g time
+to-group : (κ : Clock) (p : Peer) (rejected k g : ℕ) (fresh : List ℕ) →
+    switchingTo κ p rejected (choice.Group k g) fresh ≡ sending κ p (switched (p .run) rejected g (freshAt fresh k)) (One (commitFrame g)) g
 unfolding switchingTo
-to-group τ p rejected k g fresh time = refl
+to-group κ p rejected k g fresh = refl
 
-to-none : (τ : Timing) (p : Peer) (rejected : ℕ) (fresh : List ℕ) (time : ℕ) → switchingTo τ p rejected choice.None fresh time ≡ abandoning p
+to-none : (κ : Clock) (p : Peer) (rejected : ℕ) (fresh : List ℕ) → switchingTo κ p rejected choice.None fresh ≡ abandoning p
 unfolding switchingTo
-to-none τ p rejected fresh time = refl
+to-none κ p rejected fresh = refl
 
 pub switch-law :
-    (τ : Timing) (p : Peer) (gs fresh : List ℕ) (time : ℕ) (x : Said) (left : List ℕ) (ours before i rejected k g : ℕ) (c : Choice) (own : List ℕ) →
+    (κ : Clock) (p : Peer) (gs fresh : List ℕ) (x : Said) (left : List ℕ) (ours before i rejected k g : ℕ) (c : Choice) (own : List ℕ) →
     ours ≡ p .run .group → before ≡ p .run .rejected →
     i ≡ indexOf gs ours → rejected ≡ mark before i → c ≡ firstLeft gs 0 rejected → c ≡ choice.Group k g → own ≡ freshAt fresh k →
-    Does x left (sending τ p (switched (p .run) rejected g own) (One (commitFrame g)) g time) → Does x left (switching τ p gs fresh time)
+    Does x left (sending κ p (switched (p .run) rejected g own) (One (commitFrame g)) g) → Does x left (switching κ p gs fresh)
 unfolding switching
-switch-law τ p gs fresh time x left ours before i rejected k g c own a b d e f h j l =
-    let q : sending τ p (switched (p .run) rejected g own) (One (commitFrame g)) g time ≡ switching τ p gs fresh time = cc (to-group τ p rejected k g fresh time) in
+switch-law κ p gs fresh x left ours before i rejected k g c own a b d e f h j l =
+    let q : sending κ p (switched (p .run) rejected g own) (One (commitFrame g)) g ≡ switching κ p gs fresh = cc (to-group κ p rejected k g fresh) in
     subst (Does x left) q l
 
 pub switch-none :
-    (τ : Timing) (p : Peer) (gs fresh : List ℕ) (time : ℕ) (x : Said) (left : List ℕ) (ours before i rejected : ℕ) (c : Choice) →
+    (κ : Clock) (p : Peer) (gs fresh : List ℕ) (x : Said) (left : List ℕ) (ours before i rejected : ℕ) (c : Choice) →
     ours ≡ p .run .group → before ≡ p .run .rejected → i ≡ indexOf gs ours → rejected ≡ mark before i → c ≡ firstLeft gs 0 rejected → c ≡ choice.None →
-    Does x left (abandoning p) → Does x left (switching τ p gs fresh time)
+    Does x left (abandoning p) → Does x left (switching κ p gs fresh)
 unfolding switching
-switch-none τ p gs fresh time x left ours before i rejected c a b d e f h j =
-    let q : abandoning p ≡ switching τ p gs fresh time = cc (to-none τ p rejected fresh time) in
+switch-none κ p gs fresh x left ours before i rejected c a b d e f h j =
+    let q : abandoning p ≡ switching κ p gs fresh = cc (to-none κ p rejected fresh) in
     subst (Does x left) q j

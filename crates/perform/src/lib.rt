@@ -1,16 +1,16 @@
 // The acts of the rule book by their names, in a record's own octets: what only one act does, and `perform`, which does the one that is named.
 ghost use mathlib.Core.Path.{_≡_};
-ghost use Prim.Native.Nat.{_+_, _≤_};
+ghost use Prim.Native.Nat.{_+_, _≤_, _<_};
 ghost use lib.ListN.{length, getD};
 ghost use Rattle.groups.specs.Groups.{width, freshAt, freshFor};
 ghost use Rattle.record.specs.Layout.{decodeRun, decodeLink, decodePeer, runSize, linkSize, recordSize};
 ghost use Rattle.rules.specs.declared.Frames.the-variants.{One};
 ghost use Rattle.rules.specs.Parts.{withToken, switched, heardAgain, withLink};
-ghost use Rattle.rules.specs.Book.{factory, commitFrame, tokenRequestFrame, groupRefusalFrame, setT0, sending, answering, startedRun, starting, switching, answeringCommit, confirmingCommit, replyingToken, repeatingCommit, repeatingRefusal, confirmingAgain, resendingBoth, hearingLast, hearingAgain};
+ghost use Rattle.rules.specs.Book.{commitFrame, tokenRequestFrame, groupRefusalFrame, setT0, sending, answering, startedRun, starting, switching, answeringCommit, confirmingCommit, replyingToken, repeatingCommit, repeatingRefusal, confirmingAgain, resendingBoth, hearingLast, hearingAgain};
 ghost use Rattle.rules.specs.Book.{perform as performed};
 ghost use Rattle.rules.specs.Said.{sayingFrames, Does};
 ghost use Rattle.message.specs.View.{messageOf};
-ghost use Rattle.rules.specs.Given.{terms, call, Whole, Stocked, Ready, Able};
+ghost use Rattle.rules.specs.Given.{terms, call, Paced, Whole, Stocked, Ready, Able};
 use groups::COMMIT;
 use groups::Choice;
 use message::View;
@@ -30,6 +30,7 @@ use record::T0;
 use record::TOKLEN;
 use record::USED;
 use rules::Act;
+use rules::Clock;
 use rules::Event;
 use rules::Frames;
 use rules::Given;
@@ -38,11 +39,11 @@ use rules::Said;
 // ---- Begin
 
 // The run of "Start", in its octets.
-fn start_run(r: &mut [u8], group: u16, own: [u8; COMMIT], time: u32)
-    requires { ⌜ length (now r) ≡ runSize width ⌝ }
-    ensures { λ _. ⌜ decodeRun width (now (r .exit)) ≡ setT0 factory (startedRun group own) time ⌝ }
+fn start_run(r: &mut [u8], group: u16, own: [u8; COMMIT], clock: Clock)
+    requires { ⌜ Paced clock × (length (now r) ≡ runSize width) ⌝ }
+    ensures { λ _. ⌜ decodeRun width (now (r .exit)) ≡ setT0 clock (startedRun group own) ⌝ }
 {
-    let at = deadlines::t0_at(time, 0);
+    let at = deadlines::t0_at(clock, 0);
     record::clear(r);
     octets::put8(r, STATE, 1);
     octets::put16(r, GROUP, group);
@@ -50,11 +51,11 @@ fn start_run(r: &mut [u8], group: u16, own: [u8; COMMIT], time: u32)
     groups::put_commit(r, RUN_OWN, own);
 }
 
-fn start(s: &mut [u8], address: [u8; 6], group: u16, own: [u8; COMMIT], time: u32) -> Said
-    requires { ⌜ length (now s) ≡ recordSize width ⌝ }
-    ensures { λ x. ⌜ Does x (now (s .exit)) (starting factory (decodePeer width (now (s .entry))) address group own time) ⌝ }
+fn start(s: &mut [u8], address: [u8; 6], group: u16, own: [u8; COMMIT], clock: Clock) -> Said
+    requires { ⌜ Paced clock × (length (now s) ≡ recordSize width) ⌝ }
+    ensures { λ x. ⌜ Does x (now (s .exit)) (starting clock (decodePeer width (now (s .entry))) address group own) ⌝ }
 {
-    start_run(&mut s[RUN..LINK], group, own, time);
+    start_run(&mut s[RUN..LINK], group, own, clock);
     octets::put8(s, USED, 1);
     octets::put6(s, ADDRESS, address);
     let commit = acts::commit_frame(group);
@@ -67,13 +68,13 @@ fn start(s: &mut [u8], address: [u8; 6], group: u16, own: [u8; COMMIT], time: u3
 }
 
 // "Committed, first group, fresh commit, Sync 0, no token, send Commit, set t0."
-pub fn begin(s: &mut [u8], address: [u8; 6], groups: &[u16], fresh: &[u8], time: u32) -> Said
-    requires { ⌜ (length (now s) ≡ recordSize width) × Stocked (now groups) (now fresh) ⌝ }
-    ensures { λ x. ⌜ Does x (now (s .exit)) (starting factory (decodePeer width (now (s .entry))) address (getD (now (groups .entry)) 0 0) (freshAt (now (fresh .entry)) 0) time) ⌝ }
+pub fn begin(s: &mut [u8], address: [u8; 6], groups: &[u16], fresh: &[u8], clock: Clock) -> Said
+    requires { ⌜ Paced clock × ((length (now s) ≡ recordSize width) × Stocked (now groups) (now fresh)) ⌝ }
+    ensures { λ x. ⌜ Does x (now (s .exit)) (starting clock (decodePeer width (now (s .entry))) address (getD (now (groups .entry)) 0 0) (freshAt (now (fresh .entry)) 0)) ⌝ }
 {
     let group = groups[0];
     let own = groups::fresh_at(fresh, 0);
-    start(s, address, group, own, time)
+    start(s, address, group, own, clock)
 }
 
 // ---- RefuseGroup, AskToken, NoSlot
@@ -98,10 +99,11 @@ fn ask_token(group: u16) -> Said
 
 // "fresh commit, Form, send Commit and Confirm".
 fn answer_commit(s: &mut [u8], g: Given, v: View, body: &[u8], groups: &[u16], fresh: &[u8]) -> Said
-    requires { ⌜ (length (now s) ≡ recordSize width) × (Stocked (now groups) (now fresh) × (v .toklen ≤ 256)) ⌝ }
-    ensures { λ x. ⌜ Does x (now (s .exit)) (answeringCommit factory (decodePeer width (now (s .entry))) (g .address) (messageOf (now (body .entry)) v) (freshFor (now (groups .entry)) (now (fresh .entry)) (v .group)) (g .time)) ⌝ }
+    requires { ⌜ Paced (g .clock) × ((length (now s) ≡ recordSize width) × (Stocked (now groups) (now fresh) × (v .toklen ≤ 256))) ⌝ }
+    ensures { λ x. ⌜ Does x (now (s .exit)) (answeringCommit (g .clock) (decodePeer width (now (s .entry))) (g .address) (messageOf (now (body .entry)) v) (freshFor (now (groups .entry)) (now (fresh .entry)) (v .group))) ⌝ }
 {
     let address = g.address;
+    let clock = g.clock;
     let group = v.group;
     let own = groups::fresh_for(groups, fresh, group);
     let theirs = message::commit(body, v);
@@ -115,16 +117,17 @@ fn answer_commit(s: &mut [u8], g: Given, v: View, body: &[u8], groups: &[u16], f
         theirs,
         Frames::Two(commit, confirm),
         group,
-        g.time,
+        clock,
     )
 }
 
 // "Form, send Confirm".
 fn confirm_commit(s: &mut [u8], g: Given, v: View, body: &[u8]) -> Said
-    requires { ⌜ (length (now s) ≡ recordSize width) × (v .toklen ≤ 256) ⌝ }
-    ensures { λ x. ⌜ Does x (now (s .exit)) (confirmingCommit factory (decodePeer width (now (s .entry))) (g .address) (messageOf (now (body .entry)) v) (g .time)) ⌝ }
+    requires { ⌜ Paced (g .clock) × ((length (now s) ≡ recordSize width) × (v .toklen ≤ 256)) ⌝ }
+    ensures { λ x. ⌜ Does x (now (s .exit)) (confirmingCommit (g .clock) (decodePeer width (now (s .entry))) (g .address) (messageOf (now (body .entry)) v)) ⌝ }
 {
     let address = g.address;
+    let clock = g.clock;
     let own = record::own_of(s);
     let theirs = message::commit(body, v);
     let confirm = acts::confirm_frame(1);
@@ -136,30 +139,30 @@ fn confirm_commit(s: &mut [u8], g: Given, v: View, body: &[u8]) -> Said
         theirs,
         Frames::One(confirm),
         0,
-        g.time,
+        clock,
     )
 }
 
 // ---- SwitchGroup
 
 // The run of a change of group, in its octets.
-fn switch_run(r: &mut [u8], rejected: u8, group: u16, own: [u8; COMMIT], time: u32)
-    requires { ⌜ (length (now r) ≡ runSize width) × (decodeRun width (now r) .sync ≤ 6) ⌝ }
-    ensures { λ _. ⌜ decodeRun width (now (r .exit)) ≡ setT0 factory (switched (decodeRun width (now (r .entry))) rejected group own) time ⌝ }
+fn switch_run(r: &mut [u8], rejected: u8, group: u16, own: [u8; COMMIT], clock: Clock)
+    requires { ⌜ Paced clock × ((length (now r) ≡ runSize width) × (decodeRun width (now r) .sync ≤ clock .limit + 1)) ⌝ }
+    ensures { λ _. ⌜ decodeRun width (now (r .exit)) ≡ setT0 clock (switched (decodeRun width (now (r .entry))) rejected group own) ⌝ }
 {
     let sync = octets::get8(r, SYNC);
-    let at = deadlines::t0_at(time, sync);
+    let at = deadlines::t0_at(clock, sync);
     octets::put8(r, REJECTED, rejected);
     octets::put16(r, GROUP, group);
     octets::put32(r, T0, at);
     groups::put_commit(r, RUN_OWN, own);
 }
 
-fn switch_to(s: &mut [u8], rejected: u8, group: u16, own: [u8; COMMIT], time: u32) -> Said
-    requires { ⌜ Whole (now s) ⌝ }
-    ensures { λ x. ⌜ Does x (now (s .exit)) (sending factory (decodePeer width (now (s .entry))) (switched (decodePeer width (now (s .entry)) .run) rejected group own) (One (commitFrame group)) group time) ⌝ }
+fn switch_to(s: &mut [u8], rejected: u8, group: u16, own: [u8; COMMIT], clock: Clock) -> Said
+    requires { ⌜ Whole clock (now s) ⌝ }
+    ensures { λ x. ⌜ Does x (now (s .exit)) (sending clock (decodePeer width (now (s .entry))) (switched (decodePeer width (now (s .entry)) .run) rejected group own) (One (commitFrame group)) group) ⌝ }
 {
-    switch_run(&mut s[RUN..LINK], rejected, group, own, time);
+    switch_run(&mut s[RUN..LINK], rejected, group, own, clock);
     let commit = acts::commit_frame(group);
     Said {
         event: Event::None,
@@ -170,9 +173,9 @@ fn switch_to(s: &mut [u8], rejected: u8, group: u16, own: [u8; COMMIT], time: u3
 }
 
 // "mark it rejected and take the first group in its own list that is not marked as rejected, with a fresh commit; none, give up."
-fn switch_group(s: &mut [u8], groups: &[u16], fresh: &[u8], time: u32) -> Said
-    requires { ⌜ Whole (now s) × Stocked (now groups) (now fresh) ⌝ }
-    ensures { λ x. ⌜ Does x (now (s .exit)) (switching factory (decodePeer width (now (s .entry))) (now (groups .entry)) (now (fresh .entry)) time) ⌝ }
+fn switch_group(s: &mut [u8], groups: &[u16], fresh: &[u8], clock: Clock) -> Said
+    requires { ⌜ Whole clock (now s) × Stocked (now groups) (now fresh) ⌝ }
+    ensures { λ x. ⌜ Does x (now (s .exit)) (switching clock (decodePeer width (now (s .entry))) (now (groups .entry)) (now (fresh .entry))) ⌝ }
 {
     let ours = record::group_of(s);
     let before = record::rejected_of(s);
@@ -181,7 +184,7 @@ fn switch_group(s: &mut [u8], groups: &[u16], fresh: &[u8], time: u32) -> Said
     match groups::first_left(groups, rejected) {
         Choice::Group(k, group) => {
             let own = groups::fresh_at(fresh, k);
-            switch_to(s, rejected, group, own, time)
+            switch_to(s, rejected, group, own, clock)
         }
         Choice::None => acts::abandon(s),
     }
@@ -190,47 +193,47 @@ fn switch_group(s: &mut [u8], groups: &[u16], fresh: &[u8], time: u32) -> Said
 // ---- RepeatCommit, RepeatRefusal, ConfirmAgain, ResendBoth
 
 // "Repeat the Commit".
-pub fn repeat_commit(s: &mut [u8], time: u32) -> Said
-    requires { ⌜ length (now s) ≡ recordSize width ⌝ }
-    ensures { λ x. ⌜ Does x (now (s .exit)) (repeatingCommit factory (decodePeer width (now (s .entry))) time) ⌝ }
+pub fn repeat_commit(s: &mut [u8], clock: Clock) -> Said
+    requires { ⌜ Paced clock × (length (now s) ≡ recordSize width) ⌝ }
+    ensures { λ x. ⌜ Does x (now (s .exit)) (repeatingCommit clock (decodePeer width (now (s .entry)))) ⌝ }
 {
     let group = record::group_of(s);
     let sc = record::sc_of(s);
     let commit = acts::commit_frame(group);
-    acts::retransmit(s, sc, Frames::One(commit), time)
+    acts::retransmit(s, sc, Frames::One(commit), clock)
 }
 
 // "Repeat sending 77".
-fn repeat_refusal(s: &mut [u8], group: u16, time: u32) -> Said
-    requires { ⌜ length (now s) ≡ recordSize width ⌝ }
-    ensures { λ x. ⌜ Does x (now (s .exit)) (repeatingRefusal factory (decodePeer width (now (s .entry))) group time) ⌝ }
+fn repeat_refusal(s: &mut [u8], group: u16, clock: Clock) -> Said
+    requires { ⌜ Paced clock × (length (now s) ≡ recordSize width) ⌝ }
+    ensures { λ x. ⌜ Does x (now (s .exit)) (repeatingRefusal clock (decodePeer width (now (s .entry))) group) ⌝ }
 {
     let sc = record::sc_of(s);
     let refusal = acts::group_refusal_frame(group);
-    acts::retransmit(s, sc, Frames::One(refusal), time)
+    acts::retransmit(s, sc, Frames::One(refusal), clock)
 }
 
 // "Repeat with Sc + 1 and a new Confirm".
-pub fn confirm_again(s: &mut [u8], time: u32) -> Said
-    requires { ⌜ Whole (now s) ⌝ }
-    ensures { λ x. ⌜ Does x (now (s .exit)) (confirmingAgain factory (decodePeer width (now (s .entry))) time) ⌝ }
+pub fn confirm_again(s: &mut [u8], clock: Clock) -> Said
+    requires { ⌜ Whole clock (now s) ⌝ }
+    ensures { λ x. ⌜ Does x (now (s .exit)) (confirmingAgain clock (decodePeer width (now (s .entry)))) ⌝ }
 {
     let sc = record::sc_of(s) + 1;
     let confirm = acts::confirm_frame(sc);
-    acts::retransmit(s, sc, Frames::One(confirm), time)
+    acts::retransmit(s, sc, Frames::One(confirm), clock)
 }
 
 // "Sync + 1, Sc + 1, send Commit and Confirm, set t0".
-fn resend_both(s: &mut [u8], time: u32) -> Said
-    requires { ⌜ Whole (now s) × (decodePeer width (now s) .run .sync ≤ 5) ⌝ }
-    ensures { λ x. ⌜ Does x (now (s .exit)) (resendingBoth factory (decodePeer width (now (s .entry))) time) ⌝ }
+fn resend_both(s: &mut [u8], clock: Clock) -> Said
+    requires { ⌜ Whole clock (now s) × (decodePeer width (now s) .run .sync ≤ clock .limit) ⌝ }
+    ensures { λ x. ⌜ Does x (now (s .exit)) (resendingBoth clock (decodePeer width (now (s .entry)))) ⌝ }
 {
     let group = record::group_of(s);
     let sync = record::sync_of(s) + 1;
     let sc = record::sc_of(s) + 1;
     let commit = acts::commit_frame(group);
     let confirm = acts::confirm_frame(sc);
-    acts::send_counted(s, sync, sc, Frames::Two(commit, confirm), time)
+    acts::send_counted(s, sync, sc, Frames::Two(commit, confirm), clock)
 }
 
 // ---- ReplyToken
@@ -245,13 +248,13 @@ fn store_token(r: &mut [u8], toklen: u16, token: [u8; 256])
 }
 
 // "store the token, send Commit with it", a Repeat: where that gives up, the run is cleared, and the token with it.
-fn reply_token(s: &mut [u8], v: View, body: &[u8], time: u32) -> Said
-    requires { ⌜ (length (now s) ≡ recordSize width) × (v .toklen ≤ 256) ⌝ }
-    ensures { λ x. ⌜ Does x (now (s .exit)) (replyingToken factory (decodePeer width (now (s .entry))) (messageOf (now (body .entry)) v) time) ⌝ }
+fn reply_token(s: &mut [u8], v: View, body: &[u8], clock: Clock) -> Said
+    requires { ⌜ Paced clock × ((length (now s) ≡ recordSize width) × (v .toklen ≤ 256)) ⌝ }
+    ensures { λ x. ⌜ Does x (now (s .exit)) (replyingToken clock (decodePeer width (now (s .entry))) (messageOf (now (body .entry)) v)) ⌝ }
 {
     let token = message::token(body, v);
     store_token(&mut s[RUN..LINK], v.toklen, token);
-    repeat_commit(s, time)
+    repeat_commit(s, clock)
 }
 
 // ---- HearAgain, HearLast
@@ -285,7 +288,7 @@ fn hear_last(s: &mut [u8], counter: u16) -> Said
 
 // "Rc is the counter, Sync + 1 and a Confirm with counter 65,535".
 fn hear_again(s: &mut [u8], counter: u16) -> Said
-    requires { ⌜ (length (now s) ≡ recordSize width) × (decodePeer width (now s) .link .sync ≤ 5) ⌝ }
+    requires { ⌜ (length (now s) ≡ recordSize width) × (decodePeer width (now s) .link .sync < 255) ⌝ }
     ensures { λ x. ⌜ Does x (now (s .exit)) (hearingAgain (decodePeer width (now (s .entry))) counter) ⌝ }
 {
     let sync = record::link_sync_of(s) + 1;
@@ -304,11 +307,11 @@ pub fn perform(
     fresh: &[u8],
     act: Act,
 ) -> Said
-    requires { ⌜ Ready (now s) (now groups) (now fresh) (messageOf (now body) v) × Able act (decodePeer width (now s)) ⌝ }
+    requires { ⌜ Ready (g .clock) (now s) (now groups) (now fresh) (messageOf (now body) v) × Able (g .clock) act (decodePeer width (now s)) ⌝ }
     ensures { λ x. ⌜ Does x (now (s .exit)) (performed (terms g (now (groups .entry))) (call g (now (fresh .entry))) (decodePeer width (now (s .entry))) (messageOf (now (body .entry)) v) act) ⌝ }
 {
     let address = g.address;
-    let time = g.time;
+    let clock = g.clock;
     match act {
         Act::Drop => acts::say_frames(Frames::None),
         Act::RefuseGroup => refuse_group(v.group),
@@ -316,17 +319,17 @@ pub fn perform(
         Act::NoSlot => acts::say_refused(),
         Act::AnswerCommit => answer_commit(s, g, v, body, groups, fresh),
         Act::ConfirmCommit => confirm_commit(s, g, v, body),
-        Act::ReplyToken => reply_token(s, v, body, time),
-        Act::SwitchGroup => switch_group(s, groups, fresh, time),
-        Act::RepeatCommit => repeat_commit(s, time),
-        Act::RepeatRefusal => repeat_refusal(s, v.group, time),
-        Act::ResendBoth => resend_both(s, time),
-        Act::ConfirmAgain => confirm_again(s, time),
+        Act::ReplyToken => reply_token(s, v, body, clock),
+        Act::SwitchGroup => switch_group(s, groups, fresh, clock),
+        Act::RepeatCommit => repeat_commit(s, clock),
+        Act::RepeatRefusal => repeat_refusal(s, v.group, clock),
+        Act::ResendBoth => resend_both(s, clock),
+        Act::ConfirmAgain => confirm_again(s, clock),
         Act::GiveUp => acts::abandon(s),
-        Act::Accept => acts::accept(s, v.counter, time),
+        Act::Accept => acts::accept(s, v.counter, clock.time),
         Act::HearAgain => hear_again(s, v.counter),
         Act::HearLast => hear_last(s, v.counter),
         Act::EndLink => acts::end_link(s),
-        Act::Begin => begin(s, address, groups, fresh, time),
+        Act::Begin => begin(s, address, groups, fresh, clock),
     }
 }

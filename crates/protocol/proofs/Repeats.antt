@@ -1,18 +1,28 @@
--- Where a repeat is made only while Sync, the repeats since the run began or its pair stands, is at most the limit, no run has more than limit + 1
--- repeats before its pair stands, nor after.
+-- Where a repeat is made only while Sync, the repeats since the run began or its pair stands, is at most the run's limit, no run has more than its
+-- limit + 1 repeats before its pair stands, nor after.
+use mathlib.Core.Path.{subst}
 use mathlib.Core.Bool.{Bool, true, false}
 use mathlib.Core.List.{List, [], _∷_}
 use Prim.Native.Nat.{ℕ, suc, _≤_}
 use native.Mathlib.Omega.{arith}
-use Rattle.protocol.specs.Repeats.{Tally, more, latest, AtMost, none, run}
+use Rattle.protocol.specs.Repeats.{Tally, begun, more, latest, Within, Each, none, run, AtMost, Limited}
 
-module _ (limit : ℕ) where
-  -- a run begins
-  pub begun-at-most : (rs : List Tally) → AtMost (suc limit) rs → AtMost (suc limit) (record { before = 0; after = 0 } ∷ rs)
-  begun-at-most rs h = let z : 0 ≤ suc limit = omega arith in run z z h
+-- a run begins
+pub begun-at-most : (limit : ℕ) (rs : List Tally) → AtMost rs → AtMost (begun limit ∷ rs)
+begun-at-most limit rs h = run {r = begun limit} (record { before = omega arith; after = omega arith }) h
 
-  -- a repeat
-  pub more-at-most : (stands : Bool) (rs : List Tally) → latest stands rs ≤ limit → AtMost (suc limit) rs → AtMost (suc limit) (more stands rs)
-  more-at-most stands [] l h = none
-  more-at-most false (r ∷ rs) l (run b a h) = let m : suc (r .before) ≤ suc limit = omega arith in run m a h
-  more-at-most true (r ∷ rs) l (run b a h) = let m : suc (r .after) ≤ suc limit = omega arith in run b m h
+-- a repeat
+pub more-at-most : (stands : Bool) (r : Tally) (rs : List Tally) → latest stands (r ∷ rs) ≤ r .limit → AtMost (r ∷ rs) → AtMost (more stands (r ∷ rs))
+more-at-most false r rs l (run w h) = let m : suc (r .before) ≤ suc (r .limit) = omega arith in run (record { before = m; after = w .after }) h
+more-at-most true r rs l (run w h) = let m : suc (r .after) ≤ suc (r .limit) = omega arith in run (record { before = w .before; after = m }) h
+
+-- a repeat leaves the run its limit
+pub more-limited : (n : ℕ) (stands : Bool) (rs : List Tally) → Limited n rs → Limited n (more stands rs)
+more-limited n stands [] none = none
+more-limited n false (r ∷ rs) (run e h) = run e h
+more-limited n true (r ∷ rs) (run e h) = run e h
+
+-- where every run's limit is n, none has more than n + 1 repeats before its pair stands, nor after
+pub limited-within : (n : ℕ) (rs : List Tally) → Limited n rs → AtMost rs → Each (Within (suc n)) rs
+limited-within n [] none none = none
+limited-within n (r ∷ rs) (run e h) (run w k) = run (subst (λ (m : ℕ). Within (suc m) r) e w) (limited-within n rs h k)

@@ -7,7 +7,8 @@ use Rattle.octets.specs.Octets.{part, num, allZero}
 use Rattle.record.specs.declared.Settings.{Settings}
 
 unfoldable pub settingsOf : List ℕ → Settings
-settingsOf s = record { count = num (part s 0 1); groups = num (part s 2 2) ∷ num (part s 4 2) ∷ []; threshold = num (part s 8 2) }
+settingsOf s =
+    record { count = num (part s 0 1); groups = num (part s 2 2) ∷ num (part s 4 2) ∷ 0 ∷ []; threshold = num (part s 8 2); period = 0; limit = 0 }
 
 -- the reserved octets, 1, 6–7 and 10–15, are zero
 unfoldable pub reservedZero : List ℕ → Bool

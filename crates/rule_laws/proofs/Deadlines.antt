@@ -20,7 +20,8 @@ use Rattle.rules.specs.declared.Event.the-variants as event
 use Rattle.rules.specs.declared.Frames.{Frames}
 use Rattle.rules.specs.declared.Frames.the-variants.{None, One, Two}
 use Rattle.rules.specs.Parts.{heardAgain, withRun, withLink}
-use Rattle.rules.specs.Book.{hasRun, hasLink, Terms, Call, Timing, Step, sending, answering, dropping, refusing, abandoning, endingLink, retransmitting, forming, starting, accepting, answeringCommit, confirmingCommit, replyingToken, repeatingCommit, repeatingRefusal, resendingBoth, confirmingAgain, hearingAgain, hearingLast, perform}
+use Rattle.rules.specs.declared.Clock.{Clock}
+use Rattle.rules.specs.Book.{hasRun, hasLink, Terms, Call, Step, sending, answering, dropping, refusing, abandoning, endingLink, retransmitting, forming, starting, accepting, answeringCommit, confirmingCommit, replyingToken, repeatingCommit, repeatingRefusal, resendingBoth, confirmingAgain, hearingAgain, hearingLast, perform}
 use Rattle.rules.specs.Asked.{Asked, refuse-group, ask-token, no-slot, begin, answer-commit, confirm-commit, reply-token, switch-group, repeat-commit, repeat-refusal, resend-both, confirm-again, give-up, accept, hear-again, hear-last, end-link, drop}
 use Rattle.rule_laws.specs.Deadlines.{Still, Ends, run-ends, link-ends}
 use Rattle.rule_laws.proofs.Outcomes.{switch-outcomes, repeat-outcomes, settle-outcomes}
@@ -49,16 +50,16 @@ told : (v : Event) → tells v ≡ true → v ≡ event.None → ⊥
 told v s e = clash s (ap tells e)
 
 -- a repeat sends or gives up
-repeat-tells : (τ : Timing) (p : Peer) (r : Run) (fs : Frames) (time : ℕ) → (fs ≡ None → ⊥) → Quiet (retransmitting τ p r fs time) → ⊥
+repeat-tells : (κ : Clock) (p : Peer) (r : Run) (fs : Frames) → (fs ≡ None → ⊥) → Quiet (retransmitting κ p r fs) → ⊥
 unfolding abandoning sending
-repeat-tells τ p r fs time d = repeat-outcomes (λ (s : Step). Quiet s → ⊥) τ p r fs time (λ h q. told _ refl (q .event)) (λ h q. d (q .frames))
+repeat-tells κ p r fs d = repeat-outcomes (λ (s : Step). Quiet s → ⊥) κ p r fs (λ h q. told _ refl (q .event)) (λ h q. d (q .frames))
 
 module _ (t : Terms) (c : Call) (p : Peer) (m : Message) where
   -- a switch of group sends or gives up
   switch-tells : Quiet (perform t c p m SwitchGroup) → ⊥
   unfolding perform sending abandoning
   switch-tells =
-      switch-outcomes (λ (s : Step). Quiet s → ⊥) (t .timing) p (t .groups) (c .fresh) (c .time) (λ i g h q. sent _ refl (q .frames)) (λ h q. told _ refl (q .event))
+      switch-outcomes (λ (s : Step). Quiet s → ⊥) (c .clock) p (t .groups) (c .fresh) (λ i g h q. sent _ refl (q .frames)) (λ h q. told _ refl (q .event))
 
   -- an act that sends nothing and tells nothing leaves both deadlines
   pub still-act : (a : Act) → Quiet (perform t c p m a) → Still p (perform t c p m a .peer)
@@ -69,12 +70,12 @@ module _ (t : Terms) (c : Call) (p : Peer) (m : Message) where
   still-act NoSlot q = record { t0 = refl; t1 = refl }
   still-act AnswerCommit q = absurd (sent _ refl (q .frames))
   still-act ConfirmCommit q = absurd (sent _ refl (q .frames))
-  still-act ReplyToken q = absurd (repeat-tells (t .timing) p _ _ (c .time) (sent _ refl) q)
+  still-act ReplyToken q = absurd (repeat-tells (c .clock) p _ _ (sent _ refl) q)
   still-act SwitchGroup q = absurd (switch-tells q)
-  still-act RepeatCommit q = absurd (repeat-tells (t .timing) p _ _ (c .time) (sent _ refl) q)
-  still-act RepeatRefusal q = absurd (repeat-tells (t .timing) p _ _ (c .time) (sent _ refl) q)
+  still-act RepeatCommit q = absurd (repeat-tells (c .clock) p _ _ (sent _ refl) q)
+  still-act RepeatRefusal q = absurd (repeat-tells (c .clock) p _ _ (sent _ refl) q)
   still-act ResendBoth q = absurd (sent _ refl (q .frames))
-  still-act ConfirmAgain q = absurd (repeat-tells (t .timing) p _ _ (c .time) (sent _ refl) q)
+  still-act ConfirmAgain q = absurd (repeat-tells (c .clock) p _ _ (sent _ refl) q)
   still-act GiveUp q = absurd (told _ refl (q .event))
   still-act Accept q = absurd (told _ refl (q .event))
   still-act HearAgain q = record { t0 = refl; t1 = refl }
@@ -105,19 +106,19 @@ accept-moves : (p : Peer) (counter time : ℕ) → (p .run .state ≡ 0 → ⊥)
 unfolding accepting noRun
 accept-moves p counter time d = has-ended (run-ends (rw (ne-eqb _ _ d) refl) refl) (λ e. absurd (told _ refl e))
 
-repeat-moves : (τ : Timing) (p : Peer) (r : Run) (fs : Frames) (time : ℕ) → (p .run .state ≡ 0 → ⊥) → (fs ≡ None → ⊥) → ActMoves p (retransmitting τ p r fs time)
+repeat-moves : (κ : Clock) (p : Peer) (r : Run) (fs : Frames) → (p .run .state ≡ 0 → ⊥) → (fs ≡ None → ⊥) → ActMoves p (retransmitting κ p r fs)
 unfolding sending
-repeat-moves τ p r fs time d f = repeat-outcomes (StepMoves false p) τ p r fs time (λ h. abandon-moves p d) (λ h. has-sent f)
+repeat-moves κ p r fs d f = repeat-outcomes (StepMoves false p) κ p r fs (λ h. abandon-moves p d) (λ h. has-sent f)
 
 -- a link that ends was in being; where none was, a sound record stays as it is
-module _ (own gs a : List ℕ) (p : Peer) (k : Kept own gs a p) where
+module _ (own gs : List ℕ) (high : ℕ) (a : List ℕ) (p : Peer) (k : Kept own gs high a p) where
   no-run-t0 : p .run .state ≡ 0 → p .run .t0 ≡ 0
   unfolding noRun
-  no-run-t0 e = let q = parts own gs a p k in ap (λ (r : Run). r .t0) (run-unused gs (p .run) (q .fitRun .shape) (q .run) e)
+  no-run-t0 e = let q = parts own gs high a p k in ap (λ (r : Run). r .t0) (run-unused gs high (p .run) (q .fitRun .shape) (q .run) e)
 
   no-link-t1 : p .link .finished ≡ 0 → p .link .t1 ≡ 0
   unfolding noLink
-  no-link-t1 e = let q = parts own gs a p k in ap (λ (l : Link). l .t1) (link-unused gs (p .link) (q .fitLink .shape) (q .link) e)
+  no-link-t1 e = let q = parts own gs high a p k in ap (λ (l : Link). l .t1) (link-unused gs high (p .link) (q .fitLink .shape) (q .link) e)
 
   end-moves : ActMoves p (endingLink p)
   unfolding endingLink withLink noLink noRun noPeer
@@ -131,7 +132,7 @@ module _ (own gs a : List ℕ) (p : Peer) (k : Kept own gs a p) where
         (λ e. absurd (told _ refl e))
   ]
 
-module _ (t : Terms) (c : Call) (p : Peer) (m : Message) (k : Kept (t .own) (t .groups) (c .address) p) where
+module _ (t : Terms) (c : Call) (p : Peer) (m : Message) (high : ℕ) (k : Kept (t .own) (t .groups) high (c .address) p) where
   -- EVERY ACT leaves both deadlines, sends a frame, or its run or link ends
   pub act-moves : {a : Act} → Asked t c p m a → ActMoves p (perform t c p m a)
   unfolding perform dropping answering refusing sending forming starting withLink heardAgain answeringCommit confirmingCommit replyingToken repeatingCommit repeatingRefusal resendingBoth confirmingAgain hearingAgain hearingLast
@@ -142,15 +143,15 @@ module _ (t : Terms) (c : Call) (p : Peer) (m : Message) (k : Kept (t .own) (t .
   act-moves (begin r e) = has-sent (sent _ refl)
   act-moves (answer-commit d r o e) = has-sent (sent _ refl)
   act-moves (confirm-commit s o g e) = has-sent (sent _ refl)
-  act-moves (reply-token s z g) = repeat-moves (t .timing) p _ _ (c .time) (λ q. omega arith) (sent _ refl)
+  act-moves (reply-token s z g) = repeat-moves (c .clock) p _ _ (λ q. omega arith) (sent _ refl)
   act-moves (switch-group s z g) =
-      switch-outcomes (StepMoves false p) (t .timing) p (t .groups) (c .fresh) (c .time) (λ i g h. has-sent (sent _ refl)) (λ h. abandon-moves p (λ q. omega arith))
-  act-moves (repeat-commit s z) = repeat-moves (t .timing) p _ _ (c .time) (λ q. omega arith) (sent _ refl)
-  act-moves (repeat-refusal s z l) = repeat-moves (t .timing) p _ _ (c .time) (λ q. omega arith) (sent _ refl)
+      switch-outcomes (StepMoves false p) (c .clock) p (t .groups) (c .fresh) (λ i g h. has-sent (sent _ refl)) (λ h. abandon-moves p (λ q. omega arith))
+  act-moves (repeat-commit s z) = repeat-moves (c .clock) p _ _ (λ q. omega arith) (sent _ refl)
+  act-moves (repeat-refusal s z l) = repeat-moves (c .clock) p _ _ (λ q. omega arith) (sent _ refl)
   act-moves (resend-both s z l g) = has-sent (sent _ refl)
-  act-moves (confirm-again s z) = repeat-moves (t .timing) p _ _ (c .time) (λ q. omega arith) (sent _ refl)
+  act-moves (confirm-again s z) = repeat-moves (c .clock) p _ _ (λ q. omega arith) (sent _ refl)
   act-moves (give-up s z e) = abandon-moves p (λ q. omega arith)
-  act-moves (accept s d z v) = accept-moves p _ (c .time) (λ q. omega arith)
+  act-moves (accept s d z v) = accept-moves p _ (c .clock .time) (λ q. omega arith)
   act-moves (hear-again r n l i v) = still (record { t0 = refl; t1 = refl })
   act-moves (hear-last r n l i v) = still (record { t0 = refl; t1 = refl })
-  act-moves end-link = end-moves (t .own) (t .groups) (c .address) p k
+  act-moves end-link = end-moves (t .own) (t .groups) high (c .address) p k

@@ -19,19 +19,19 @@ use Rattle.octets.proofs.Laws.{length-part, bytes-part}
 use Rattle.octets.proofs.Scan.{clash, and-left, and-right}
 use Rattle.octets.proofs.Tests.{zero-zeros}
 use Rattle.groups.specs.Groups.{width, known, listed, freshAt, freshFor, indexOf, place, placeFrom, placeOr0, mark, marked}
-use Rattle.groups.specs.declared.Choice.the-variants as choice
 use Rattle.groups.proofs.Laws.{chosen, place-at, listed-place}
 use Rattle.record.specs.declared.Run.{Run}
 use Rattle.record.specs.declared.Link.{Link}
 use Rattle.record.specs.declared.Peer.{Peer}
 use Rattle.record.specs.Layout.{noRun, noLink, noPeer}
 use Rattle.record.proofs.Laws.{FitRun, FitLink, FitPeer, shape-peer, fit-no-run, fit-no-link, fit-no-peer}
-use Rattle.soundness.specs.Soundness.{usable, allKnown, eachOnce, highSync, commitOk, tokenOk, rejectedOk, committedOk, confirmedOk, runOk, linkOk, peerOk}
+use Rattle.soundness.specs.Soundness.{usable, allKnown, eachOnce, commitOk, tokenOk, rejectedOk, committedOk, confirmedOk, runOk, linkOk, peerOk}
 use Rattle.soundness.proofs.Laws.{Token, Committed, Confirmed, Finished, no-run-ok, no-link-ok, no-peer-ok, run-unused, peer-unused, run-is-committed, committed-is-run, run-is-confirmed, confirmed-is-run, run-states, link-is-finished, finished-is-link, peer-in-use, in-use-peer, listed-known}
 use Rattle.rules.specs.declared.Frames.{Frames}
 use Rattle.rules.specs.declared.Frames.the-variants.{One}
 use Rattle.rules.specs.Parts.{withSync, withSc, withToken, switched, heardAgain, withRun, withLink}
-use Rattle.rules.specs.Book.{Timing, Step, commitFrame, deadline, delay, setT0, sending, answering, settled, abandoning, retransmitting, supersede, formedRun, forming, linkOfRun, accepting, endingLink, startedRun, starting, switching, replyingToken}
+use Rattle.rules.specs.declared.Clock.{Clock}
+use Rattle.rules.specs.Book.{Step, commitFrame, deadline, delay, setT0, sending, answering, settled, abandoning, retransmitting, supersede, formedRun, forming, linkOfRun, accepting, endingLink, startedRun, starting, switching, replyingToken}
 use Rattle.rules.specs.Message.{Message}
 use Rattle.rule_laws.proofs.Outcomes.{whether, switch-outcomes, repeat-outcomes, settle-outcomes}
 
@@ -78,60 +78,60 @@ pub record Heard (gs : List ℕ) (m : Message) : Type 0 where
 -- ---- what is kept
 
 -- a record that the address may have: it fits, it has the form, and it is the address's if it is in use
-pub record Kept (own gs a : List ℕ) (p : Peer) : Type 0 where
+pub record Kept (own gs : List ℕ) (high : ℕ) (a : List ℕ) (p : Peer) : Type 0 where
   pub fits : FitPeer width p
-  pub form : peerOk own gs p ≡ true
+  pub form : peerOk own gs high p ≡ true
   pub place : (p .used ≡ 0 → ⊥) → p .address ≡ a
 
-pub record Keeps (own gs a : List ℕ) (s : Step) : Type 0 where
-  pub kept : Kept own gs a (s .peer)
+pub record Keeps (own gs : List ℕ) (high : ℕ) (a : List ℕ) (s : Step) : Type 0 where
+  pub kept : Kept own gs high a (s .peer)
 
 -- run and link, whether the record is in use or free
-pub record Parts (gs : List ℕ) (p : Peer) : Type 0 where
-  pub run : runOk gs (p .run) ≡ true
-  pub link : linkOk gs (p .link) ≡ true
+pub record Parts (gs : List ℕ) (high : ℕ) (p : Peer) : Type 0 where
+  pub run : runOk gs high (p .run) ≡ true
+  pub link : linkOk gs high (p .link) ≡ true
   pub fitRun : FitRun width (p .run)
   pub fitLink : FitLink width (p .link)
 
-pub kept-free : (own gs a : List ℕ) → Kept own gs a noPeer
+pub kept-free : (own gs : List ℕ) (high : ℕ) (a : List ℕ) → Kept own gs high a noPeer
 unfolding noPeer
-kept-free own gs a = record { fits = fit-no-peer; form = no-peer-ok own gs; place = λ d. absurd (d refl) }
+kept-free own gs high a = record { fits = fit-no-peer; form = no-peer-ok own gs high; place = λ d. absurd (d refl) }
 
-parts-free : (gs : List ℕ) → Parts gs noPeer
+parts-free : (gs : List ℕ) (high : ℕ) → Parts gs high noPeer
 unfolding noPeer
-parts-free gs = record { run = no-run-ok gs; link = no-link-ok gs; fitRun = fit-no-run; fitLink = fit-no-link }
+parts-free gs high = record { run = no-run-ok gs high; link = no-link-ok gs high; fitRun = fit-no-run; fitLink = fit-no-link }
 
-module _ (own gs a : List ℕ) where
-  unused : (p : Peer) → Kept own gs a p → p .used ≡ 0 → p ≡ noPeer
-  unused p k e = peer-unused own gs p (shape-peer (k .fits)) (k .form) e
+module _ (own gs : List ℕ) (high : ℕ) (a : List ℕ) where
+  unused : (p : Peer) → Kept own gs high a p → p .used ≡ 0 → p ≡ noPeer
+  unused p k e = peer-unused own gs high p (shape-peer (k .fits)) (k .form) e
 
-  pub parts : (p : Peer) → Kept own gs a p → Parts gs p
+  pub parts : (p : Peer) → Kept own gs high a p → Parts gs high p
   parts p k = elim (ℕ-discrete (p .used) 0) [
-    | yes e ↦ subst (λ (q : Peer). Parts gs q) (sym (unused p k e)) (parts-free gs)
-    | no d ↦ let f = peer-in-use own gs p d (k .form) in record { run = f .run; link = f .link; fitRun = k .fits .run; fitLink = k .fits .link }
+    | yes e ↦ subst (λ (q : Peer). Parts gs high q) (sym (unused p k e)) (parts-free gs high)
+    | no d ↦ let f = peer-in-use own gs high p d (k .form) in record { run = f .run; link = f .link; fitRun = k .fits .run; fitLink = k .fits .link }
   ]
 
   -- a record with a run, or with a link, is in use
-  pub run-used : (p : Peer) → Kept own gs a p → (p .run .state ≡ 0 → ⊥) → p .used ≡ 1
+  pub run-used : (p : Peer) → Kept own gs high a p → (p .run .state ≡ 0 → ⊥) → p .used ≡ 1
   unfolding noPeer noRun
   run-used p k h = elim (ℕ-discrete (p .used) 0) [
     | yes e ↦ absurd (h (ap (λ (q : Peer). q .run .state) (unused p k e)))
-    | no d ↦ peer-in-use own gs p d (k .form) .used
+    | no d ↦ peer-in-use own gs high p d (k .form) .used
   ]
 
-  pub link-used : (p : Peer) → Kept own gs a p → (p .link .finished ≡ 0 → ⊥) → p .used ≡ 1
+  pub link-used : (p : Peer) → Kept own gs high a p → (p .link .finished ≡ 0 → ⊥) → p .used ≡ 1
   unfolding noPeer noLink
   link-used p k h = elim (ℕ-discrete (p .used) 0) [
     | yes e ↦ absurd (h (ap (λ (q : Peer). q .link .finished) (unused p k e)))
-    | no d ↦ peer-in-use own gs p d (k .form) .used
+    | no d ↦ peer-in-use own gs high p d (k .form) .used
   ]
 
   -- the address of a record in use is a usable one
-  pub place-of : (p : Peer) → Kept own gs a p → p .used ≡ 1 → Place own a
+  pub place-of : (p : Peer) → Kept own gs high a p → p .used ≡ 1 → Place own a
   place-of p k e =
       let d : p .used ≡ 0 → ⊥ = λ z. omega arith in
       let q = k .place d in
-      record { six = ap length (sym q) ∙ k .fits .address; bytes = subst Bytes q (k .fits .bytes); usable = subst (λ (x : List ℕ). usable own x ≡ true) q (peer-in-use own gs p d (k .form) .usable) }
+      record { six = ap length (sym q) ∙ k .fits .address; bytes = subst Bytes q (k .fits .bytes); usable = subst (λ (x : List ℕ). usable own x ≡ true) q (peer-in-use own gs high p d (k .form) .usable) }
 
   some-of : (x y : ℕ) → ((x ≡ 0) × (y ≡ 0) → ⊥) → (not (eqb x 0) || not (eqb y 0)) ≡ true
   some-of x y h = elim (ℕ-discrete x 0) [
@@ -140,11 +140,11 @@ module _ (own gs a : List ℕ) where
   ]
 
   -- a record in use, from its parts
-  seated : (q : Peer) → Place own a → q .used ≡ 1 → q .address ≡ a → Parts gs q → ((q .run .state ≡ 0) × (q .link .finished ≡ 0) → ⊥) → Kept own gs a q
+  seated : (q : Peer) → Place own a → q .used ≡ 1 → q .address ≡ a → Parts gs high q → ((q .run .state ≡ 0) × (q .link .finished ≡ 0) → ⊥) → Kept own gs high a q
   seated q c u e f h =
       record {
         fits = record { used = omega arith; address = ap length e ∙ c .six; bytes = subst Bytes (sym e) (c .bytes); run = f .fitRun; link = f .fitLink };
-        form = in-use-peer own gs q (record {
+        form = in-use-peer own gs high q (record {
           used = u;
           usable = subst (λ (x : List ℕ). usable own x ≡ true) (sym e) (c .usable);
           run = f .run;
@@ -154,9 +154,9 @@ module _ (own gs a : List ℕ) where
         place = λ d. e;
       }
 
-  settle-keeps : (q : Peer) → Parts gs q → (((q .run .state ≡ 0) × (q .link .finished ≡ 0) → ⊥) → (q .used ≡ 1) × ((q .address ≡ a) × Place own a)) → Kept own gs a (settled q)
+  settle-keeps : (q : Peer) → Parts gs high q → (((q .run .state ≡ 0) × (q .link .finished ≡ 0) → ⊥) → (q .used ≡ 1) × ((q .address ≡ a) × Place own a)) → Kept own gs high a (settled q)
   settle-keeps q f h =
-      settle-outcomes (Kept own gs a) q (λ x y. kept-free own gs a) (λ d. let w = h d in seated q (w .1 .1) (w .0) (w .1 .0) f d)
+      settle-outcomes (Kept own gs high a) q (λ x y. kept-free own gs high a) (λ d. let w = h d in seated q (w .1 .1) (w .0) (w .1 .0) f d)
 
 -- ---- numbers
 
@@ -263,9 +263,9 @@ fresh-stored gs fresh g s l =
 
 -- ---- runs
 
-t0-fits : (τ : Timing) (r : Run) (time : ℕ) → FitRun width r → FitRun width (setT0 τ r time)
+t0-fits : (κ : Clock) (r : Run) → FitRun width r → FitRun width (setT0 κ r)
 unfolding setT0
-t0-fits τ r time f =
+t0-fits κ r f =
     let s = f .shape in
     record {
       shape = record {
@@ -275,7 +275,7 @@ t0-fits τ r time f =
         sc = s .sc;
         group = s .group;
         toklen = s .toklen;
-        t0 = deadline-fits time (delay τ (r .sync));
+        t0 = deadline-fits (κ .time) (delay κ (r .sync));
         own = s .own;
         peer = s .peer;
         token = s .token;
@@ -286,19 +286,19 @@ t0-fits τ r time f =
     }
 
 -- a run in being keeps its form whatever t0 is
-t0-form : (gs : List ℕ) (τ : Timing) (r : Run) (time : ℕ) → (r .state ≡ 0 → ⊥) → runOk gs r ≡ true → runOk gs (setT0 τ r time) ≡ true
+t0-form : (gs : List ℕ) (high : ℕ) (κ : Clock) (r : Run) → (r .state ≡ 0 → ⊥) → runOk gs high r ≡ true → runOk gs high (setT0 κ r) ≡ true
 unfolding runOk setT0 committedOk confirmedOk rejectedOk tokenOk
-t0-form gs τ r time d ok = rw (ne-eqb (r .state) 0 d) (rw (ne-eqb (r .state) 0 d) at ok)
+t0-form gs high κ r d ok = rw (ne-eqb (r .state) 0 d) (rw (ne-eqb (r .state) 0 d) at ok)
 
 no-token : Token noRun
 unfolding noRun
 no-token = record { short = lit≤ tt; rest = zero-zeros 256 }
 
 -- any run's token
-token-of : (gs : List ℕ) (r : Run) → FitRun width r → runOk gs r ≡ true → Token r
-token-of gs r f ok = elim (run-states gs r ok) [
-  | inl e ↦ subst Token (sym (run-unused gs r (f .shape) ok e)) no-token
-  | inr u ↦ elim u [ inl e ↦ run-is-committed gs r e ok .token | inr e ↦ run-is-confirmed gs r e ok .token ]
+token-of : (gs : List ℕ) (high : ℕ) (r : Run) → FitRun width r → runOk gs high r ≡ true → Token r
+token-of gs high r f ok = elim (run-states gs high r ok) [
+  | inl e ↦ subst Token (sym (run-unused gs high r (f .shape) ok e)) no-token
+  | inr u ↦ elim u [ inl e ↦ run-is-committed gs high r e ok .token | inr e ↦ run-is-confirmed gs high r e ok .token ]
 ]
 
 counted-fits : (r : Run) (sync sc : ℕ) → FitRun width r → sync < 256 → sc < 65536 → FitRun width (withSync (withSc r sc) sync)
@@ -323,9 +323,9 @@ counted-fits r sync sc f h k =
       token = f .token;
     }
 
-counted-committed : (gs : List ℕ) (r : Run) (sync : ℕ) → Committed gs r → sync ≤ highSync → Committed gs (withSync r sync)
+counted-committed : (gs : List ℕ) (high : ℕ) (r : Run) (sync : ℕ) → Committed gs high r → sync ≤ high → Committed gs high (withSync r sync)
 unfolding withSync
-counted-committed gs r sync f h =
+counted-committed gs high r sync f h =
     record {
       sync = h;
       below = f .below;
@@ -337,9 +337,9 @@ counted-committed gs r sync f h =
       peer = f .peer;
     }
 
-counted-confirmed : (gs : List ℕ) (r : Run) (sync : ℕ) → Confirmed gs r → sync ≤ highSync → r .sync + 1 ≡ sync → Confirmed gs (withSync (withSc r (r .sc + 1)) sync)
+counted-confirmed : (gs : List ℕ) (high : ℕ) (r : Run) (sync : ℕ) → Confirmed gs high r → sync ≤ high → r .sync + 1 ≡ sync → Confirmed gs high (withSync (withSc r (r .sc + 1)) sync)
 unfolding withSync withSc
-counted-confirmed gs r sync f h e =
+counted-confirmed gs high r sync f h e =
     record {
       sync = h;
       rejected = f .rejected;
@@ -373,9 +373,9 @@ token-fits gs r m f h =
       token = h .octets;
     }
 
-token-committed : (gs : List ℕ) (r : Run) (m : Message) → Committed gs r → Heard gs m → Committed gs (withToken r (m .toklen) (m .token))
+token-committed : (gs : List ℕ) (high : ℕ) (r : Run) (m : Message) → Committed gs high r → Heard gs m → Committed gs high (withToken r (m .toklen) (m .token))
 unfolding withToken
-token-committed gs r m f h =
+token-committed gs high r m f h =
     record {
       sync = f .sync;
       below = f .below;
@@ -410,10 +410,10 @@ switched-fits r rejected g fresh f h k c =
       token = f .token;
     }
 
-switched-committed : (gs : List ℕ) (r : Run) (rejected g : ℕ) (fresh : List ℕ) → Committed gs r → rejected < 2 ^ length gs → marked rejected (indexOf gs g) ≡ false
-    → listed gs g ≡ true → Stored g fresh → Committed gs (switched r rejected g fresh)
+switched-committed : (gs : List ℕ) (high : ℕ) (r : Run) (rejected g : ℕ) (fresh : List ℕ) → Committed gs high r → rejected < 2 ^ length gs → marked rejected (indexOf gs g) ≡ false
+    → listed gs g ≡ true → Stored g fresh → Committed gs high (switched r rejected g fresh)
 unfolding switched
-switched-committed gs r rejected g fresh f h m l c =
+switched-committed gs high r rejected g fresh f h m l c =
     record {
       sync = f .sync;
       below = h;
@@ -452,11 +452,11 @@ started-fits g fresh k c =
     zero-bytes (suc n) zero = lit< tt
     zero-bytes (suc n) (suc i) = zero-bytes n i
 
-started-committed : (gs : List ℕ) (g : ℕ) (fresh : List ℕ) → listed gs g ≡ true → Stored g fresh → Committed gs (startedRun g fresh)
+started-committed : (gs : List ℕ) (high : ℕ) (g : ℕ) (fresh : List ℕ) → listed gs g ≡ true → Stored g fresh → Committed gs high (startedRun g fresh)
 unfolding startedRun
-started-committed gs g fresh l c =
+started-committed gs high g fresh l c =
     record {
-      sync = lit≤ tt;
+      sync = omega arith;
       below = pow-pos (length gs);
       clear = none-marked (indexOf gs g);
       sc = refl;
@@ -467,9 +467,9 @@ started-committed gs g fresh l c =
     }
 
 -- a pair that is formed
-formed-fits : (τ : Timing) (r : Run) (g : ℕ) (own theirs : List ℕ) (time : ℕ) → FitRun width r → g < 65536 → Stored g own → Stored g theirs → FitRun width (formedRun τ r g own theirs time)
+formed-fits : (κ : Clock) (r : Run) (g : ℕ) (own theirs : List ℕ) → FitRun width r → g < 65536 → Stored g own → Stored g theirs → FitRun width (formedRun κ r g own theirs)
 unfolding formedRun setT0
-formed-fits τ r g own theirs time f k c d =
+formed-fits κ r g own theirs f k c d =
     let s = f .shape in
     record {
       shape = record {
@@ -479,7 +479,7 @@ formed-fits τ r g own theirs time f k c d =
         sc = lit< tt;
         group = k;
         toklen = s .toklen;
-        t0 = deadline-fits time (delay τ 0);
+        t0 = deadline-fits (κ .time) (delay κ 0);
         own = c .long;
         peer = d .long;
         token = s .token;
@@ -489,12 +489,12 @@ formed-fits τ r g own theirs time f k c d =
       token = f .token;
     }
 
-formed-confirmed : (gs : List ℕ) (τ : Timing) (r : Run) (g : ℕ) (own theirs : List ℕ) (time : ℕ) → Token r → listed gs g ≡ true → Stored g own → Stored g theirs
-    → Confirmed gs (formedRun τ r g own theirs time)
+formed-confirmed : (gs : List ℕ) (high : ℕ) (κ : Clock) (r : Run) (g : ℕ) (own theirs : List ℕ) → Token r → listed gs g ≡ true → Stored g own → Stored g theirs
+    → Confirmed gs high (formedRun κ r g own theirs)
 unfolding formedRun setT0
-formed-confirmed gs τ r g own theirs time t l c d =
+formed-confirmed gs high κ r g own theirs t l c d =
     record {
-      sync = lit≤ tt;
+      sync = omega arith;
       rejected = refl;
       sc = refl;
       listed = l;
@@ -503,9 +503,9 @@ formed-confirmed gs τ r g own theirs time t l c d =
       peer = d .tail;
     }
 
-formed-state : (τ : Timing) (r : Run) (g : ℕ) (own theirs : List ℕ) (time : ℕ) → formedRun τ r g own theirs time .state ≡ 2
+formed-state : (κ : Clock) (r : Run) (g : ℕ) (own theirs : List ℕ) → formedRun κ r g own theirs .state ≡ 2
 unfolding formedRun setT0
-formed-state τ r g own theirs time = refl
+formed-state κ r g own theirs = refl
 
 -- ---- links
 
@@ -529,9 +529,9 @@ linked-fits r counter time f h =
       peer = f .peer;
     }
 
-linked-finished : (gs : List ℕ) (r : Run) (counter time : ℕ) → Confirmed gs r → Finished gs (linkOfRun r counter time)
+linked-finished : (gs : List ℕ) (high : ℕ) (r : Run) (counter time : ℕ) → Confirmed gs high r → Finished gs high (linkOfRun r counter time)
 unfolding linkOfRun
-linked-finished gs r counter time f =
+linked-finished gs high r counter time f =
     record { finished = refl; superseded = lit≤ tt; sync = f .sync; spare = refl; listed = f .listed; own = f .own; peer = f .peer }
 
 heard-fits : (l : Link) (rc sync : ℕ) → FitLink width l → rc < 65536 → sync < 256 → FitLink width (heardAgain l rc sync)
@@ -554,9 +554,9 @@ heard-fits l rc sync f h k =
       peer = f .peer;
     }
 
-heard-finished : (gs : List ℕ) (l : Link) (rc sync : ℕ) → Finished gs l → sync ≤ highSync → Finished gs (heardAgain l rc sync)
+heard-finished : (gs : List ℕ) (high : ℕ) (l : Link) (rc sync : ℕ) → Finished gs high l → sync ≤ high → Finished gs high (heardAgain l rc sync)
 unfolding heardAgain
-heard-finished gs l rc sync f h =
+heard-finished gs high l rc sync f h =
     record { finished = f .finished; superseded = f .superseded; sync = h; spare = f .spare; listed = f .listed; own = f .own; peer = f .peer }
 
 -- a link with its mark set
@@ -585,159 +585,159 @@ superseded-fits l f =
       peer = f .peer;
     })
 
-superseded-form : (gs : List ℕ) (l : Link) → linkOk gs l ≡ true → linkOk gs (supersede l) ≡ true
+superseded-form : (gs : List ℕ) (high : ℕ) (l : Link) → linkOk gs high l ≡ true → linkOk gs high (supersede l) ≡ true
 unfolding supersede marked-link
-superseded-form gs l ok =
-    whether (λ (x : Link). linkOk gs x ≡ true) (eqb (l .finished) 0) l (marked-link l) (λ e. ok)
-    (λ e. let f = link-is-finished gs l (eqb-false _ _ e) ok in
-    finished-is-link gs (marked-link l)
+superseded-form gs high l ok =
+    whether (λ (x : Link). linkOk gs high x ≡ true) (eqb (l .finished) 0) l (marked-link l) (λ e. ok)
+    (λ e. let f = link-is-finished gs high l (eqb-false _ _ e) ok in
+    finished-is-link gs high (marked-link l)
     (record { finished = f .finished; superseded = lit≤ tt; sync = f .sync; spare = f .spare; listed = f .listed; own = f .own; peer = f .peer }))
 
 -- ---- acts
 
-module _ (own gs a : List ℕ) where
+module _ (own gs : List ℕ) (high : ℕ) (a : List ℕ) where
   -- frames are sent for a run in being
-  send-keeps : (τ : Timing) (p : Peer) (r : Run) (fs : Frames) (fresh time : ℕ) → Kept own gs a p → p .used ≡ 1 → (r .state ≡ 0 → ⊥) → runOk gs r ≡ true → FitRun width r
-      → Keeps own gs a (sending τ p r fs fresh time)
+  send-keeps : (κ : Clock) (p : Peer) (r : Run) (fs : Frames) (fresh : ℕ) → Kept own gs high a p → p .used ≡ 1 → (r .state ≡ 0 → ⊥) → runOk gs high r ≡ true → FitRun width r
+      → Keeps own gs high a (sending κ p r fs fresh)
   unfolding sending withRun setT0
-  send-keeps τ p r fs fresh time k u d ok f =
-      let c = parts own gs a p k in
+  send-keeps κ p r fs fresh k u d ok f =
+      let c = parts own gs high a p k in
       record {
-        kept = seated own gs a _ (place-of own gs a p k u) u (k .place (λ z. omega arith))
-            (record { run = t0-form gs τ r time d ok; link = c .link; fitRun = t0-fits τ r time f; fitLink = c .fitLink }) (λ z. d (z .0));
+        kept = seated own gs high a _ (place-of own gs high a p k u) u (k .place (λ z. omega arith))
+            (record { run = t0-form gs high κ r d ok; link = c .link; fitRun = t0-fits κ r f; fitLink = c .fitLink }) (λ z. d (z .0));
       }
 
-  pub answer-keeps : (p : Peer) (fs : Frames) → Kept own gs a p → Keeps own gs a (answering p fs)
+  pub answer-keeps : (p : Peer) (fs : Frames) → Kept own gs high a p → Keeps own gs high a (answering p fs)
   unfolding answering
   answer-keeps p fs k = record { kept = k }
 
-  pub abandon-keeps : (p : Peer) → Kept own gs a p → Keeps own gs a (abandoning p)
+  pub abandon-keeps : (p : Peer) → Kept own gs high a p → Keeps own gs high a (abandoning p)
   unfolding abandoning withRun noRun
   abandon-keeps p k =
-      let c = parts own gs a p k in
+      let c = parts own gs high a p k in
       record {
-        kept = settle-keeps own gs a (withRun p noRun) (record { run = no-run-ok gs; link = c .link; fitRun = fit-no-run; fitLink = c .fitLink })
-            (λ d. let u = link-used own gs a p k (λ z. d (refl, z)) in (u, (k .place (λ z. omega arith), place-of own gs a p k u)));
+        kept = settle-keeps own gs high a (withRun p noRun) (record { run = no-run-ok gs high; link = c .link; fitRun = fit-no-run; fitLink = c .fitLink })
+            (λ d. let u = link-used own gs high a p k (λ z. d (refl, z)) in (u, (k .place (λ z. omega arith), place-of own gs high a p k u)));
       }
 
-  pub end-keeps : (p : Peer) → Kept own gs a p → Keeps own gs a (endingLink p)
+  pub end-keeps : (p : Peer) → Kept own gs high a p → Keeps own gs high a (endingLink p)
   unfolding endingLink withLink noLink
   end-keeps p k =
-      let c = parts own gs a p k in
+      let c = parts own gs high a p k in
       record {
-        kept = settle-keeps own gs a (withLink p noLink) (record { run = c .run; link = no-link-ok gs; fitRun = c .fitRun; fitLink = fit-no-link })
-            (λ d. let u = run-used own gs a p k (λ z. d (z, refl)) in (u, (k .place (λ z. omega arith), place-of own gs a p k u)));
+        kept = settle-keeps own gs high a (withLink p noLink) (record { run = c .run; link = no-link-ok gs high; fitRun = c .fitRun; fitLink = fit-no-link })
+            (λ d. let u = run-used own gs high a p k (λ z. d (z, refl)) in (u, (k .place (λ z. omega arith), place-of own gs high a p k u)));
       }
 
-  pub form-keeps : (τ : Timing) (p : Peer) (b : List ℕ) (g : ℕ) (mine theirs : List ℕ) (fs : Frames) (fresh time : ℕ) → Place own a → Lists gs → Kept own gs a p → b ≡ a
-      → listed gs g ≡ true → Stored g mine → Stored g theirs → Keeps own gs a (forming τ p b g mine theirs fs fresh time)
+  pub form-keeps : (κ : Clock) (p : Peer) (b : List ℕ) (g : ℕ) (mine theirs : List ℕ) (fs : Frames) (fresh : ℕ) → Place own a → Lists gs → Kept own gs high a p → b ≡ a
+      → listed gs g ≡ true → Stored g mine → Stored g theirs → Keeps own gs high a (forming κ p b g mine theirs fs fresh)
   unfolding forming
-  form-keeps τ p b g mine theirs fs fresh time w l k e m c d =
-      let q = parts own gs a p k in
-      let s : formedRun τ (p .run) g mine theirs time .state ≡ 2 = formed-state τ (p .run) g mine theirs time in
+  form-keeps κ p b g mine theirs fs fresh w l k e m c d =
+      let q = parts own gs high a p k in
+      let s : formedRun κ (p .run) g mine theirs .state ≡ 2 = formed-state κ (p .run) g mine theirs in
       record {
-        kept = seated own gs a _ w refl e
+        kept = seated own gs high a _ w refl e
             (record {
-              run = confirmed-is-run gs _ s (formed-confirmed gs τ (p .run) g mine theirs time (token-of gs (p .run) (q .fitRun) (q .run)) m c d);
-              link = superseded-form gs (p .link) (q .link);
-              fitRun = formed-fits τ (p .run) g mine theirs time (q .fitRun) (group-fits gs g l m) c d;
+              run = confirmed-is-run gs high _ s (formed-confirmed gs high κ (p .run) g mine theirs (token-of gs high (p .run) (q .fitRun) (q .run)) m c d);
+              link = superseded-form gs high (p .link) (q .link);
+              fitRun = formed-fits κ (p .run) g mine theirs (q .fitRun) (group-fits gs g l m) c d;
               fitLink = superseded-fits (p .link) (q .fitLink);
             })
             (λ z. omega (arith, s, z .0));
       }
 
-  pub accept-keeps : (p : Peer) (counter time : ℕ) → Kept own gs a p → p .run .state ≡ 2 → counter < 65536 → Keeps own gs a (accepting p counter time)
+  pub accept-keeps : (p : Peer) (counter time : ℕ) → Kept own gs high a p → p .run .state ≡ 2 → counter < 65536 → Keeps own gs high a (accepting p counter time)
   unfolding accepting
   accept-keeps p counter time k e h =
-      let q = parts own gs a p k in
-      let u = run-used own gs a p k (λ z. omega arith) in
-      let f = linked-finished gs (p .run) counter time (run-is-confirmed gs (p .run) e (q .run)) in
+      let q = parts own gs high a p k in
+      let u = run-used own gs high a p k (λ z. omega arith) in
+      let f = linked-finished gs high (p .run) counter time (run-is-confirmed gs high (p .run) e (q .run)) in
       record {
-        kept = seated own gs a _ (place-of own gs a p k u) u (k .place (λ z. omega arith))
-            (record { run = no-run-ok gs; link = finished-is-link gs _ f; fitRun = fit-no-run; fitLink = linked-fits (p .run) counter time (q .fitRun) h })
+        kept = seated own gs high a _ (place-of own gs high a p k u) u (k .place (λ z. omega arith))
+            (record { run = no-run-ok gs high; link = finished-is-link gs high _ f; fitRun = fit-no-run; fitLink = linked-fits (p .run) counter time (q .fitRun) h })
             (λ z. omega (arith, f .finished, z .1));
       }
 
-  pub hear-keeps : (p : Peer) (counter sync : ℕ) (fs : Frames) → Kept own gs a p → (p .link .finished ≡ 0 → ⊥) → counter < 65536 → sync ≤ highSync
-      → Keeps own gs a (answering (withLink p (heardAgain (p .link) counter sync)) fs)
+  pub hear-keeps : (p : Peer) (counter sync : ℕ) (fs : Frames) → Kept own gs high a p → (p .link .finished ≡ 0 → ⊥) → counter < 65536 → sync ≤ high → high < 256
+      → Keeps own gs high a (answering (withLink p (heardAgain (p .link) counter sync)) fs)
   unfolding answering withLink
-  hear-keeps p counter sync fs k d h j =
-      let q = parts own gs a p k in
-      let u = link-used own gs a p k d in
-      let f = heard-finished gs (p .link) counter sync (link-is-finished gs (p .link) d (q .link)) j in
+  hear-keeps p counter sync fs k d h j w =
+      let q = parts own gs high a p k in
+      let u = link-used own gs high a p k d in
+      let f = heard-finished gs high (p .link) counter sync (link-is-finished gs high (p .link) d (q .link)) j in
       record {
-        kept = seated own gs a _ (place-of own gs a p k u) u (k .place (λ z. omega arith))
-            (record { run = q .run; link = finished-is-link gs _ f; fitRun = q .fitRun; fitLink = heard-fits (p .link) counter sync (q .fitLink) h (omega arith) })
+        kept = seated own gs high a _ (place-of own gs high a p k u) u (k .place (λ z. omega arith))
+            (record { run = q .run; link = finished-is-link gs high _ f; fitRun = q .fitRun; fitLink = heard-fits (p .link) counter sync (q .fitLink) h (omega arith) })
             (λ z. omega (arith, f .finished, z .1));
       }
 
   -- "Repeat", in Committed, where the run that goes on is in Committed too: the record's, or the record's with another token; and in Confirmed
-  repeat-keeps : (τ : Timing) (p : Peer) (r : Run) (fs : Frames) (time : ℕ) → τ .limit + 1 ≤ highSync → Kept own gs a p → p .run .state ≡ 1
-      → r .state ≡ 1 → Committed gs r → FitRun width r → Keeps own gs a (retransmitting τ p r fs time)
+  repeat-keeps : (κ : Clock) (p : Peer) (r : Run) (fs : Frames) → κ .limit + 1 ≤ high → high < 256 → Kept own gs high a p → p .run .state ≡ 1
+      → r .state ≡ 1 → Committed gs high r → FitRun width r → Keeps own gs high a (retransmitting κ p r fs)
   unfolding withSync withSc
-  repeat-keeps τ p r fs time t k e d f g =
-      let u = run-used own gs a p k (λ z. omega arith) in
-      repeat-outcomes (Keeps own gs a) τ p r fs time (λ h. abandon-keeps p k)
-      (λ h. send-keeps τ p _ fs 0 time k u (λ z. omega arith) (committed-is-run gs _ d (counted-committed gs r (p .run .sync + 1) f (omega arith)))
+  repeat-keeps κ p r fs t w k e d f g =
+      let u = run-used own gs high a p k (λ z. omega arith) in
+      repeat-outcomes (Keeps own gs high a) κ p r fs (λ h. abandon-keeps p k)
+      (λ h. send-keeps κ p _ fs 0 k u (λ z. omega arith) (committed-is-run gs high _ d (counted-committed gs high r (p .run .sync + 1) f (omega arith)))
       (counted-fits r (p .run .sync + 1) (r .sc) g (omega arith) (g .shape .sc)))
 
-  pub same-keeps : (τ : Timing) (p : Peer) (fs : Frames) (time : ℕ) → τ .limit + 1 ≤ highSync → Kept own gs a p → p .run .state ≡ 1
-      → Keeps own gs a (retransmitting τ p (p .run) fs time)
-  same-keeps τ p fs time t k e =
-      let q = parts own gs a p k in repeat-keeps τ p (p .run) fs time t k e e (run-is-committed gs (p .run) e (q .run)) (q .fitRun)
+  pub same-keeps : (κ : Clock) (p : Peer) (fs : Frames) → κ .limit + 1 ≤ high → high < 256 → Kept own gs high a p → p .run .state ≡ 1
+      → Keeps own gs high a (retransmitting κ p (p .run) fs)
+  same-keeps κ p fs t w k e =
+      let q = parts own gs high a p k in repeat-keeps κ p (p .run) fs t w k e e (run-is-committed gs high (p .run) e (q .run)) (q .fitRun)
 
-  pub reply-keeps : (τ : Timing) (p : Peer) (m : Message) (time : ℕ) → τ .limit + 1 ≤ highSync → Heard gs m → Kept own gs a p → p .run .state ≡ 1
-      → Keeps own gs a (replyingToken τ p m time)
+  pub reply-keeps : (κ : Clock) (p : Peer) (m : Message) → κ .limit + 1 ≤ high → high < 256 → Heard gs m → Kept own gs high a p → p .run .state ≡ 1
+      → Keeps own gs high a (replyingToken κ p m)
   unfolding replyingToken withToken
-  reply-keeps τ p m time t h k e =
-      let q = parts own gs a p k in
-      repeat-keeps τ p (withToken (p .run) (m .toklen) (m .token)) _ time t k e e (token-committed gs (p .run) m (run-is-committed gs (p .run) e (q .run)) h)
+  reply-keeps κ p m t w h k e =
+      let q = parts own gs high a p k in
+      repeat-keeps κ p (withToken (p .run) (m .toklen) (m .token)) _ t w k e e (token-committed gs high (p .run) m (run-is-committed gs high (p .run) e (q .run)) h)
       (token-fits gs (p .run) m (q .fitRun) h)
 
-  pub raised-keeps : (τ : Timing) (p : Peer) (fs : Frames) (time : ℕ) → Kept own gs a p → p .run .state ≡ 2 → p .run .sync + 1 ≤ highSync
-      → Keeps own gs a (sending τ p (withSync (withSc (p .run) (p .run .sc + 1)) (p .run .sync + 1)) fs 0 time)
+  pub raised-keeps : (κ : Clock) (p : Peer) (fs : Frames) → Kept own gs high a p → p .run .state ≡ 2 → p .run .sync + 1 ≤ high → high < 256
+      → Keeps own gs high a (sending κ p (withSync (withSc (p .run) (p .run .sc + 1)) (p .run .sync + 1)) fs 0)
   unfolding withSync withSc
-  raised-keeps τ p fs time k e h =
-      let q = parts own gs a p k in
-      let u = run-used own gs a p k (λ z. omega arith) in
-      let f = run-is-confirmed gs (p .run) e (q .run) in
-      send-keeps τ p _ fs 0 time k u (λ z. omega arith) (confirmed-is-run gs _ e (counted-confirmed gs (p .run) (p .run .sync + 1) f h refl))
+  raised-keeps κ p fs k e h w =
+      let q = parts own gs high a p k in
+      let u = run-used own gs high a p k (λ z. omega arith) in
+      let f = run-is-confirmed gs high (p .run) e (q .run) in
+      send-keeps κ p _ fs 0 k u (λ z. omega arith) (confirmed-is-run gs high _ e (counted-confirmed gs high (p .run) (p .run .sync + 1) f h refl))
       (counted-fits (p .run) (p .run .sync + 1) (p .run .sc + 1) (q .fitRun) (omega arith) (omega (arith, f .sc)))
 
   -- a start
-  pub start-keeps : (τ : Timing) (p : Peer) (g : ℕ) (fresh : List ℕ) (time : ℕ) → Place own a → Lists gs → Kept own gs a p → listed gs g ≡ true → Stored g fresh
-      → Keeps own gs a (starting τ p a g fresh time)
+  pub start-keeps : (κ : Clock) (p : Peer) (g : ℕ) (fresh : List ℕ) → Place own a → Lists gs → Kept own gs high a p → listed gs g ≡ true → Stored g fresh
+      → Keeps own gs high a (starting κ p a g fresh)
   unfolding starting setT0 startedRun
-  start-keeps τ p g fresh time w l k m c =
-      let q = parts own gs a p k in
-      let s : setT0 τ (startedRun g fresh) time .state ≡ 1 = refl in
+  start-keeps κ p g fresh w l k m c =
+      let q = parts own gs high a p k in
+      let s : setT0 κ (startedRun g fresh) .state ≡ 1 = refl in
       record {
-        kept = seated own gs a _ w refl refl
+        kept = seated own gs high a _ w refl refl
             (record {
-              run = t0-form gs τ (startedRun g fresh) time (λ z. omega (arith, z)) (committed-is-run gs _ refl (started-committed gs g fresh m c));
+              run = t0-form gs high κ (startedRun g fresh) (λ z. omega (arith, z)) (committed-is-run gs high _ refl (started-committed gs high g fresh m c));
               link = q .link;
-              fitRun = t0-fits τ _ time (started-fits g fresh (group-fits gs g l m) c);
+              fitRun = t0-fits κ _ (started-fits g fresh (group-fits gs g l m) c);
               fitLink = q .fitLink;
             })
             (λ z. omega (arith, s, z .0));
       }
 
   -- "77: our group"
-  pub switch-keeps : (τ : Timing) (p : Peer) (fresh : List ℕ) (time : ℕ) → Lists gs → Stock gs fresh → Kept own gs a p → p .run .state ≡ 1 → Keeps own gs a (switching τ p gs fresh time)
+  pub switch-keeps : (κ : Clock) (p : Peer) (fresh : List ℕ) → Lists gs → Stock gs fresh → Kept own gs high a p → p .run .state ≡ 1 → Keeps own gs high a (switching κ p gs fresh)
   unfolding switched
-  switch-keeps τ p fresh time l s k e =
-      let q = parts own gs a p k in
-      let u = run-used own gs a p k (λ z. omega arith) in
-      let f = run-is-committed gs (p .run) e (q .run) in
+  switch-keeps κ p fresh l s k e =
+      let q = parts own gs high a p k in
+      let u = run-used own gs high a p k (λ z. omega arith) in
+      let f = run-is-committed gs high (p .run) e (q .run) in
       let b = mark-below (p .run .rejected) (indexOf gs (p .run .group)) (length gs) (f .below) (index-listed gs (p .run .group) (f .listed) .0) in
       let n = pow-few (length gs) (l .few) in
-      switch-outcomes (Keeps own gs a) τ p gs fresh time
+      switch-outcomes (Keeps own gs high a) κ p gs fresh
       (λ i g h.
       let w = chosen gs (mark (p .run .rejected) (indexOf gs (p .run .group))) i g h in
       let m = listed-at gs i g (w .0) (w .1) in
       let c = subst (λ (x : ℕ). Stored x (freshAt fresh i)) (w .1) (s .each i (w .0)) in
       let z = subst (λ (x : ℕ). marked (mark (p .run .rejected) (indexOf gs (p .run .group))) x ≡ false) (sym (index-nth gs i g (l .once) (w .0) (w .1))) (w .2) in
-      send-keeps τ p _ (One (commitFrame g)) g time k u (λ y. omega arith) (committed-is-run gs _ e (switched-committed gs (p .run) _ g (freshAt fresh i) f b z m c))
+      send-keeps κ p _ (One (commitFrame g)) g k u (λ y. omega arith) (committed-is-run gs high _ e (switched-committed gs high (p .run) _ g (freshAt fresh i) f b z m c))
       (switched-fits (p .run) _ g (freshAt fresh i) (q .fitRun) (omega arith) (group-fits gs g l m) c))
       (λ h. abandon-keeps p k)
 

@@ -22,7 +22,8 @@ use Rattle.rules.specs.declared.Frames.{Frames}
 use Rattle.rules.specs.declared.Frames.the-variants.{None, One}
 use Rattle.rules.specs.Parts.{withMark, withSync, withSc, heardAgain, withToken, withRun, withLink}
 use Rattle.rules.specs.Parts as changed
-use Rattle.rules.specs.Book.{_is_, holds, Timing, Terms, Call, Step, silence, commitFrame, deadline, delay, t0Due, setT0, sending, answering, refusing, settled, abandoning, endingLink, retransmitting, dropping, supersede, formedRun, forming, startedRun, starting, linkOfRun, accepting, answeringCommit, confirmingCommit, replyingToken, repeatingCommit, repeatingRefusal, resendingBoth, confirmingAgain, hearingAgain, hearingLast, perform, startAct, clockAct, commitAct, confirmAct, onFrame, onClock, onStart}
+use Rattle.rules.specs.declared.Clock.{Clock}
+use Rattle.rules.specs.Book.{_is_, holds, Terms, Call, Step, silence, commitFrame, deadline, delay, t0Due, setT0, sending, answering, refusing, settled, abandoning, endingLink, retransmitting, dropping, supersede, formedRun, forming, startedRun, starting, linkOfRun, accepting, answeringCommit, confirmingCommit, replyingToken, repeatingCommit, repeatingRefusal, resendingBoth, confirmingAgain, hearingAgain, hearingLast, perform, startAct, clockAct, commitAct, confirmAct, onFrame, onClock, onStart}
 use Rattle.rules.specs.Asked.{Asked, refuse-group, ask-token, no-slot, begin, answer-commit, confirm-commit, reply-token, switch-group, repeat-commit, repeat-refusal, resend-both, confirm-again, give-up, accept, hear-again, hear-last, end-link, drop}
 use Rattle.rules.proofs.Ladders.{commit-asked, confirm-asked, frame-asked, clock-asked}
 use Rattle.rule_laws.proofs.Outcomes.{whether, switch-outcomes, repeat-outcomes, settle-outcomes}
@@ -52,12 +53,12 @@ pub record SameRun (r x : Run) : Type 0 where
   pub token : x .token ≡ r .token
 
 -- t0 is set by the run's own Sync
-pub record T0Set (τ : Timing) (time : ℕ) (r : Run) : Type 0 where
-  pub t0 : r .t0 ≡ deadline time (delay τ (r .sync))
+pub record T0Set (κ : Clock) (r : Run) : Type 0 where
+  pub t0 : r .t0 ≡ deadline (κ .time) (delay κ (r .sync))
 
 -- a repeat is made within the limit, and Sync counts it
-pub record Counted (τ : Timing) (p : Peer) (s : Step) : Type 0 where
-  pub low : p .run .sync ≤ τ .limit
+pub record Counted (κ : Clock) (p : Peer) (s : Step) : Type 0 where
+  pub low : p .run .sync ≤ κ .limit
   pub sync : s .peer .run .sync ≡ p .run .sync + 1
 
 -- a drop changes nothing, sends nothing and tells nothing
@@ -86,21 +87,21 @@ pub record Refused (p : Peer) (s : Step) : Type 0 where
   pub t1 : s .peer .link .t1 ≡ p .link .t1
 
 -- the reply to a 76, a repeat too, changes the token and t0
-pub record Replied (τ : Timing) (time : ℕ) (p : Peer) (s : Step) : Type 0 where
+pub record Replied (κ : Clock) (p : Peer) (s : Step) : Type 0 where
   pub event : s .event ≡ event.None
   pub afresh : s .afresh ≡ 0
   pub around : AroundRun p (s .peer)
-  pub counted : Counted τ p s
+  pub counted : Counted κ p s
   pub state : s .peer .run .state ≡ p .run .state
   pub rejected : s .peer .run .rejected ≡ p .run .rejected
   pub sc : s .peer .run .sc ≡ p .run .sc
   pub group : s .peer .run .group ≡ p .run .group
   pub own : s .peer .run .own ≡ p .run .own
   pub peer : s .peer .run .peer ≡ p .run .peer
-  pub set : T0Set τ time (s .peer .run)
+  pub set : T0Set κ (s .peer .run)
 
 -- a switch of group changes the group, the rejected ones, the own commit and t0
-pub record Switched (τ : Timing) (time : ℕ) (p : Peer) (s : Step) : Type 0 where
+pub record Switched (κ : Clock) (p : Peer) (s : Step) : Type 0 where
   pub event : s .event ≡ event.None
   pub afresh : s .afresh ≡ s .peer .run .group
   pub around : AroundRun p (s .peer)
@@ -110,19 +111,19 @@ pub record Switched (τ : Timing) (time : ℕ) (p : Peer) (s : Step) : Type 0 wh
   pub toklen : s .peer .run .toklen ≡ p .run .toklen
   pub peer : s .peer .run .peer ≡ p .run .peer
   pub token : s .peer .run .token ≡ p .run .token
-  pub set : T0Set τ time (s .peer .run)
+  pub set : T0Set κ (s .peer .run)
 
 -- any other repeat changes Sc and t0
-pub record Repeated (τ : Timing) (time : ℕ) (p : Peer) (s : Step) : Type 0 where
+pub record Repeated (κ : Clock) (p : Peer) (s : Step) : Type 0 where
   pub event : s .event ≡ event.None
   pub afresh : s .afresh ≡ 0
   pub around : AroundRun p (s .peer)
-  pub counted : Counted τ p s
+  pub counted : Counted κ p s
   pub run : SameRun (p .run) (s .peer .run)
-  pub set : T0Set τ time (s .peer .run)
+  pub set : T0Set κ (s .peer .run)
 
 -- a formed pair: Confirmed, Sync 0, Sc 1, none rejected, t0 set; the token stays; a link is marked and keeps its t1
-pub record Formed (τ : Timing) (time : ℕ) (p : Peer) (s : Step) : Type 0 where
+pub record Formed (κ : Clock) (p : Peer) (s : Step) : Type 0 where
   pub event : s .event ≡ event.None
   pub used : s .peer .used ≡ 1
   pub link : s .peer .link ≡ supersede (p .link)
@@ -132,11 +133,11 @@ pub record Formed (τ : Timing) (time : ℕ) (p : Peer) (s : Step) : Type 0 wher
   pub sc : s .peer .run .sc ≡ 1
   pub toklen : s .peer .run .toklen ≡ p .run .toklen
   pub token : s .peer .run .token ≡ p .run .token
-  pub set : T0Set τ time (s .peer .run)
+  pub set : T0Set κ (s .peer .run)
   pub t1 : s .peer .link .t1 ≡ p .link .t1
 
 -- a start: Committed, Sync 0, no token, t0 set; a link stays as it is, its mark too
-pub record Started (τ : Timing) (time : ℕ) (p : Peer) (address : List ℕ) (group : ℕ) (fresh : List ℕ) (s : Step) : Type 0 where
+pub record Started (κ : Clock) (p : Peer) (address : List ℕ) (group : ℕ) (fresh : List ℕ) (s : Step) : Type 0 where
   pub event : s .event ≡ event.None
   pub frames : s .frames ≡ One (commitFrame group)
   pub afresh : s .afresh ≡ group
@@ -147,7 +148,7 @@ pub record Started (τ : Timing) (time : ℕ) (p : Peer) (address : List ℕ) (g
   pub sync : s .peer .run .sync ≡ 0
   pub toklen : s .peer .run .toklen ≡ 0
   pub own : s .peer .run .own ≡ fresh
-  pub set : T0Set τ time (s .peer .run)
+  pub set : T0Set κ (s .peer .run)
 
 -- the run becomes the link, t1 a day after the reading
 pub record Accepted (time : ℕ) (p : Peer) (s : Step) : Type 0 where
@@ -182,11 +183,11 @@ pub record Ended (p : Peer) (s : Step) : Type 0 where
   pub t0 : (p .run .state ≡ 0 → ⊥) → s .peer .run .t0 ≡ p .run .t0
 
 -- a link hears a Confirm again: Rc, and Sync by at most one
-pub record Again (τ : Timing) (p : Peer) (s : Step) : Type 0 where
+pub record Again (κ : Clock) (p : Peer) (s : Step) : Type 0 where
   pub event : s .event ≡ event.None
   pub afresh : s .afresh ≡ 0
   pub around : AroundLink p (s .peer)
-  pub low : p .link .sync ≤ τ .limit
+  pub low : p .link .sync ≤ κ .limit
   pub sync : s .peer .link .sync ≤ p .link .sync + 1
   pub finished : s .peer .link .finished ≡ p .link .finished
   pub superseded : s .peer .link .superseded ≡ p .link .superseded
@@ -196,19 +197,19 @@ pub record Again (τ : Timing) (p : Peer) (s : Step) : Type 0 where
   pub t0 : s .peer .run .t0 ≡ p .run .t0
   pub t1 : s .peer .link .t1 ≡ p .link .t1
 
-pub data Did (τ : Timing) (time : ℕ) (p : Peer) (s : Step) : Type 0 where
-  dropped : Dropped p s → Did τ time p s
-  answered : Answered p s → Did τ time p s
-  refused : Refused p s → Did τ time p s
-  replied : Replied τ time p s → Did τ time p s
-  switched : Switched τ time p s → Did τ time p s
-  repeated : Repeated τ time p s → Did τ time p s
-  formed : Formed τ time p s → Did τ time p s
-  started : (address : List ℕ) (group : ℕ) (fresh : List ℕ) → Started τ time p address group fresh s → Did τ time p s
-  accepted : Accepted time p s → Did τ time p s
-  abandoned : Abandoned p s → Did τ time p s
-  ended : Ended p s → Did τ time p s
-  again : Again τ p s → Did τ time p s
+pub data Did (κ : Clock) (p : Peer) (s : Step) : Type 0 where
+  dropped : Dropped p s → Did κ p s
+  answered : Answered p s → Did κ p s
+  refused : Refused p s → Did κ p s
+  replied : Replied κ p s → Did κ p s
+  switched : Switched κ p s → Did κ p s
+  repeated : Repeated κ p s → Did κ p s
+  formed : Formed κ p s → Did κ p s
+  started : (address : List ℕ) (group : ℕ) (fresh : List ℕ) → Started κ p address group fresh s → Did κ p s
+  accepted : Accepted (κ .time) p s → Did κ p s
+  abandoned : Abandoned p s → Did κ p s
+  ended : Ended p s → Did κ p s
+  again : Again κ p s → Did κ p s
 
 -- ---- the acts have their rows
 
@@ -230,21 +231,21 @@ ended-t0 : (p : Peer) → (p .run .state ≡ 0 → ⊥) → settled (withLink p 
 unfolding withLink
 ended-t0 p d = settle-outcomes (λ (q : Peer). q .run .t0 ≡ p .run .t0) (withLink p noLink) (λ x y. absurd (d x)) (λ z. refl)
 
-module _ (τ : Timing) (time : ℕ) (p : Peer) where
-  drop-row : Did τ time p (dropping p)
+module _ (κ : Clock) (p : Peer) where
+  drop-row : Did κ p (dropping p)
   unfolding dropping answering
   drop-row = dropped (record { event = refl; frames = refl; afresh = refl; peer = refl })
 
-  answer-row : (fs : Frames) → Did τ time p (answering p fs)
+  answer-row : (fs : Frames) → Did κ p (answering p fs)
   unfolding answering
   answer-row fs = answered (record { event = refl; afresh = refl; peer = refl; t0 = refl; t1 = refl })
 
-  refuse-row : Did τ time p (refusing p)
+  refuse-row : Did κ p (refusing p)
   unfolding refusing
   refuse-row = refused (record { event = refl; frames = refl; afresh = refl; refused = refl; peer = refl; t0 = refl; t1 = refl })
 
-  token-row : (m : Message) → p .run .sync ≤ τ .limit
-      → Did τ time p (sending τ p (withSync (withToken (p .run) (m .toklen) (m .token)) (p .run .sync + 1)) (One (commitFrame (p .run .group))) 0 time)
+  token-row : (m : Message) → p .run .sync ≤ κ .limit
+      → Did κ p (sending κ p (withSync (withToken (p .run) (m .toklen) (m .token)) (p .run .sync + 1)) (One (commitFrame (p .run .group))) 0)
   unfolding withSync withToken sending withRun setT0
   token-row m h =
       replied (record {
@@ -261,7 +262,7 @@ module _ (τ : Timing) (time : ℕ) (p : Peer) where
         set = record { t0 = refl };
       })
 
-  switch-row : (rejected g : ℕ) (fresh : List ℕ) (fs : Frames) → Did τ time p (sending τ p (changed.switched (p .run) rejected g fresh) fs g time)
+  switch-row : (rejected g : ℕ) (fresh : List ℕ) (fs : Frames) → Did κ p (sending κ p (changed.switched (p .run) rejected g fresh) fs g)
   unfolding changed.switched sending withRun setT0
   switch-row rejected g fresh fs =
       switched (record {
@@ -277,7 +278,7 @@ module _ (τ : Timing) (time : ℕ) (p : Peer) where
         set = record { t0 = refl };
       })
 
-  count-row : (sc : ℕ) (fs : Frames) → p .run .sync ≤ τ .limit → Did τ time p (sending τ p (withSync (withSc (p .run) sc) (p .run .sync + 1)) fs 0 time)
+  count-row : (sc : ℕ) (fs : Frames) → p .run .sync ≤ κ .limit → Did κ p (sending κ p (withSync (withSc (p .run) sc) (p .run .sync + 1)) fs 0)
   unfolding withSync withSc sending withRun setT0
   count-row sc fs h =
       repeated (record {
@@ -289,7 +290,7 @@ module _ (τ : Timing) (time : ℕ) (p : Peer) where
         set = record { t0 = refl };
       })
 
-  form-row : (address : List ℕ) (g : ℕ) (own theirs : List ℕ) (fs : Frames) (afresh : ℕ) → Did τ time p (forming τ p address g own theirs fs afresh time)
+  form-row : (address : List ℕ) (g : ℕ) (own theirs : List ℕ) (fs : Frames) (afresh : ℕ) → Did κ p (forming κ p address g own theirs fs afresh)
   unfolding forming formedRun setT0
   form-row address g own theirs fs afresh =
       formed (record {
@@ -306,7 +307,7 @@ module _ (τ : Timing) (time : ℕ) (p : Peer) where
         t1 = supersede-t1 (p .link);
       })
 
-  start-row : (address : List ℕ) (group : ℕ) (fresh : List ℕ) → Started τ time p address group fresh (starting τ p address group fresh time)
+  start-row : (address : List ℕ) (group : ℕ) (fresh : List ℕ) → Started κ p address group fresh (starting κ p address group fresh)
   unfolding starting setT0 startedRun
   start-row address group fresh =
       record {
@@ -323,7 +324,7 @@ module _ (τ : Timing) (time : ℕ) (p : Peer) where
         set = record { t0 = refl };
       }
 
-  accept-row : (counter : ℕ) → Did τ time p (accepting p counter time)
+  accept-row : (counter : ℕ) → Did κ p (accepting p counter (κ .time))
   unfolding accepting linkOfRun
   accept-row counter =
       accepted (record {
@@ -342,15 +343,15 @@ module _ (τ : Timing) (time : ℕ) (p : Peer) where
         peer = refl;
       })
 
-  abandon-row : Did τ time p (abandoning p)
+  abandon-row : Did κ p (abandoning p)
   unfolding abandoning
   abandon-row = abandoned (record { event = refl; frames = refl; afresh = refl; peer = refl; t1 = abandoned-t1 p })
 
-  end-row : Did τ time p (endingLink p)
+  end-row : Did κ p (endingLink p)
   unfolding endingLink
   end-row = ended (record { event = refl; frames = refl; afresh = refl; peer = refl; t0 = ended-t0 p })
 
-  hear-row : (counter sync : ℕ) (fs : Frames) → p .link .sync ≤ τ .limit → sync ≤ p .link .sync + 1 → Did τ time p (answering (withLink p (heardAgain (p .link) counter sync)) fs)
+  hear-row : (counter sync : ℕ) (fs : Frames) → p .link .sync ≤ κ .limit → sync ≤ p .link .sync + 1 → Did κ p (answering (withLink p (heardAgain (p .link) counter sync)) fs)
   unfolding answering withLink heardAgain
   hear-row counter sync fs h k =
       again (record {
@@ -368,61 +369,61 @@ module _ (τ : Timing) (time : ℕ) (p : Peer) where
         t1 = refl;
       })
 
-  repeat-row : (sc : ℕ) (fs : Frames) → Did τ time p (retransmitting τ p (withSc (p .run) sc) fs time)
-  repeat-row sc fs = repeat-outcomes (Did τ time p) τ p (withSc (p .run) sc) fs time (λ h. abandon-row) (λ h. count-row sc fs h)
+  repeat-row : (sc : ℕ) (fs : Frames) → Did κ p (retransmitting κ p (withSc (p .run) sc) fs)
+  repeat-row sc fs = repeat-outcomes (Did κ p) κ p (withSc (p .run) sc) fs (λ h. abandon-row) (λ h. count-row sc fs h)
 
-  same-row : (fs : Frames) → Did τ time p (retransmitting τ p (p .run) fs time)
+  same-row : (fs : Frames) → Did κ p (retransmitting κ p (p .run) fs)
   unfolding withSc
   same-row fs = repeat-row (p .run .sc) fs
 
-  reply-row : (m : Message) → Did τ time p (replyingToken τ p m time)
+  reply-row : (m : Message) → Did κ p (replyingToken κ p m)
   unfolding replyingToken
-  reply-row m = repeat-outcomes (Did τ time p) τ p _ _ time (λ h. abandon-row) (λ h. token-row m h)
+  reply-row m = repeat-outcomes (Did κ p) κ p _ _ (λ h. abandon-row) (λ h. token-row m h)
 
 -- ---- every step is one of the rows
 
 module _ (t : Terms) (c : Call) (p : Peer) (m : Message) where
-  pub act-did : {a : Act} → Asked t c p m a → Did (t .timing) (c .time) p (perform t c p m a)
+  pub act-did : {a : Act} → Asked t c p m a → Did (c .clock) p (perform t c p m a)
   unfolding perform answeringCommit confirmingCommit repeatingCommit repeatingRefusal resendingBoth confirmingAgain hearingAgain hearingLast
-  act-did (drop d) = drop-row (t .timing) (c .time) p
-  act-did (refuse-group r z l) = answer-row (t .timing) (c .time) p _
-  act-did (ask-token r z l) = answer-row (t .timing) (c .time) p _
-  act-did (no-slot r e) = refuse-row (t .timing) (c .time) p
-  act-did (begin r e) = started _ _ _ (start-row (t .timing) (c .time) p _ _ _)
-  act-did (answer-commit d r o e) = form-row (t .timing) (c .time) p _ _ _ _ _ _
-  act-did (confirm-commit s o g e) = form-row (t .timing) (c .time) p _ _ _ _ _ _
-  act-did (reply-token s z g) = reply-row (t .timing) (c .time) p m
+  act-did (drop d) = drop-row (c .clock) p
+  act-did (refuse-group r z l) = answer-row (c .clock) p _
+  act-did (ask-token r z l) = answer-row (c .clock) p _
+  act-did (no-slot r e) = refuse-row (c .clock) p
+  act-did (begin r e) = started _ _ _ (start-row (c .clock) p _ _ _)
+  act-did (answer-commit d r o e) = form-row (c .clock) p _ _ _ _ _ _
+  act-did (confirm-commit s o g e) = form-row (c .clock) p _ _ _ _ _ _
+  act-did (reply-token s z g) = reply-row (c .clock) p m
   act-did (switch-group s z g) =
-      switch-outcomes (Did (t .timing) (c .time) p) (t .timing) p (t .groups) (c .fresh) (c .time) (λ i g h. switch-row (t .timing) (c .time) p _ g _ _)
-      (λ h. abandon-row (t .timing) (c .time) p)
-  act-did (repeat-commit s z) = same-row (t .timing) (c .time) p _
-  act-did (repeat-refusal s z l) = same-row (t .timing) (c .time) p _
-  act-did (resend-both s z l g) = count-row (t .timing) (c .time) p _ _ l
-  act-did (confirm-again s z) = repeat-row (t .timing) (c .time) p _ _
-  act-did (give-up s z e) = abandon-row (t .timing) (c .time) p
-  act-did (accept s d z v) = accept-row (t .timing) (c .time) p _
-  act-did (hear-again r n l i v) = hear-row (t .timing) (c .time) p (m .counter) (p .link .sync + 1) _ l (omega arith)
-  act-did (hear-last r n l i v) = hear-row (t .timing) (c .time) p (m .counter) (p .link .sync) None l (omega arith)
-  act-did end-link = end-row (t .timing) (c .time) p
+      switch-outcomes (Did (c .clock) p) (c .clock) p (t .groups) (c .fresh) (λ i g h. switch-row (c .clock) p _ g _ _)
+      (λ h. abandon-row (c .clock) p)
+  act-did (repeat-commit s z) = same-row (c .clock) p _
+  act-did (repeat-refusal s z l) = same-row (c .clock) p _
+  act-did (resend-both s z l g) = count-row (c .clock) p _ _ l
+  act-did (confirm-again s z) = repeat-row (c .clock) p _ _
+  act-did (give-up s z e) = abandon-row (c .clock) p
+  act-did (accept s d z v) = accept-row (c .clock) p _
+  act-did (hear-again r n l i v) = hear-row (c .clock) p (m .counter) (p .link .sync + 1) _ l (omega arith)
+  act-did (hear-last r n l i v) = hear-row (c .clock) p (m .counter) (p .link .sync) None l (omega arith)
+  act-did end-link = end-row (c .clock) p
 
-  pub commit-did : m .sequence ≡ 1 → Did (t .timing) (c .time) p (perform t c p m (commitAct t c p m))
+  pub commit-did : m .sequence ≡ 1 → Did (c .clock) p (perform t c p m (commitAct t c p m))
   commit-did f = act-did (commit-asked t c p m f)
 
-  pub confirm-did : (m .sequence ≡ 1 → ⊥) → Did (t .timing) (c .time) p (perform t c p m (confirmAct t c p m))
+  pub confirm-did : (m .sequence ≡ 1 → ⊥) → Did (c .clock) p (perform t c p m (confirmAct c p m))
   confirm-did d = act-did (confirm-asked t c p m d)
 
-  pub frame-did : Did (t .timing) (c .time) p (onFrame t c p m)
+  pub frame-did : Did (c .clock) p (onFrame t c p m)
   unfolding onFrame
   frame-did = act-did (frame-asked t c p m)
 
 module _ (t : Terms) (c : Call) (p : Peer) where
-  pub expire-did : Did (t .timing) (c .time) p (onClock t c p)
+  pub expire-did : Did (c .clock) p (onClock t c p)
   unfolding onClock clockAct perform repeatingCommit confirmingAgain
   expire-did =
-      let P : Act → Type 0 = λ (a : Act). Did (t .timing) (c .time) p (perform t c p silence a) in
-      whether P (holds (t0Due p (c .time))) _ _
-      (λ x. whether P (p .run .state is 2) _ _ (λ e. repeat-row (t .timing) (c .time) p _ _) (λ d. same-row (t .timing) (c .time) p _))
-      (λ x. end-row (t .timing) (c .time) p)
+      let P : Act → Type 0 = λ (a : Act). Did (c .clock) p (perform t c p silence a) in
+      whether P (holds (t0Due p (c .clock .time))) _ _
+      (λ x. whether P (p .run .state is 2) _ _ (λ e. repeat-row (c .clock) p _ _) (λ d. same-row (c .clock) p _))
+      (λ x. end-row (c .clock) p)
 
   begins : t .full ≡ false → startAct t ≡ act.Begin
   unfolding startAct holds
@@ -433,11 +434,11 @@ module _ (t : Terms) (c : Call) (p : Peer) where
       go false e = refl
 
   -- a start, a slot being there
-  pub start-did : t .full ≡ false → Started (t .timing) (c .time) p (c .address) (getD (t .groups) 0 0) (freshAt (c .fresh) 0) (onStart t c p)
+  pub start-did : t .full ≡ false → Started (c .clock) p (c .address) (getD (t .groups) 0 0) (freshAt (c .fresh) 0) (onStart t c p)
   unfolding onStart perform
   start-did f =
-      subst (λ (a : Act). Started (t .timing) (c .time) p (c .address) (getD (t .groups) 0 0) (freshAt (c .fresh) 0) (perform t c p silence a)) (sym (begins f))
-      (start-row (t .timing) (c .time) p (c .address) (getD (t .groups) 0 0) (freshAt (c .fresh) 0))
+      subst (λ (a : Act). Started (c .clock) p (c .address) (getD (t .groups) 0 0) (freshAt (c .fresh) 0) (perform t c p silence a)) (sym (begins f))
+      (start-row (c .clock) p (c .address) (getD (t .groups) 0 0) (freshAt (c .fresh) 0))
 
 -- ---- Sync
 
@@ -449,9 +450,9 @@ settled-link : (n : ℕ) (p : Peer) → p .link .sync ≤ n → settled p .link 
 unfolding noPeer noLink
 settled-link n p h = settle-outcomes (λ (q : Peer). q .link .sync ≤ n) p (λ x y. omega arith) (λ d. h)
 
-module _ (τ : Timing) (time : ℕ) (p : Peer) (s : Step) where
+module _ (κ : Clock) (p : Peer) (s : Step) where
   -- Sync never passes the limit by more than one: 6 at the factory's 5
-  pub sync-bound : Did τ time p s → p .run .sync ≤ τ .limit + 1 → s .peer .run .sync ≤ τ .limit + 1
+  pub sync-bound : Did κ p s → p .run .sync ≤ κ .limit + 1 → s .peer .run .sync ≤ κ .limit + 1
   unfolding withRun withLink noRun
   sync-bound (dropped r) h = rw (r .peer) h
   sync-bound (answered r) h = rw (r .peer) h
@@ -462,11 +463,11 @@ module _ (τ : Timing) (time : ℕ) (p : Peer) (s : Step) where
   sync-bound (formed r) h = omega (arith, r .sync)
   sync-bound (started a g f r) h = omega (arith, r .sync)
   sync-bound (accepted r) h = rw (r .run) (omega arith)
-  sync-bound (abandoned r) h = rw (r .peer) (settled-run (τ .limit + 1) (withRun p noRun) (omega arith))
-  sync-bound (ended r) h = rw (r .peer) (settled-run (τ .limit + 1) (withLink p noLink) h)
+  sync-bound (abandoned r) h = rw (r .peer) (settled-run (κ .limit + 1) (withRun p noRun) (omega arith))
+  sync-bound (ended r) h = rw (r .peer) (settled-run (κ .limit + 1) (withLink p noLink) h)
   sync-bound (again r) h = rw (r .around .run) h
 
-  pub link-sync-bound : Did τ time p s → p .run .sync ≤ τ .limit + 1 → p .link .sync ≤ τ .limit + 1 → s .peer .link .sync ≤ τ .limit + 1
+  pub link-sync-bound : Did κ p s → p .run .sync ≤ κ .limit + 1 → p .link .sync ≤ κ .limit + 1 → s .peer .link .sync ≤ κ .limit + 1
   unfolding withRun withLink noLink
   link-sync-bound (dropped r) g h = rw (r .peer) h
   link-sync-bound (answered r) g h = rw (r .peer) h
@@ -477,13 +478,13 @@ module _ (τ : Timing) (time : ℕ) (p : Peer) (s : Step) where
   link-sync-bound (formed r) g h = rw (r .link, supersede-sync (p .link)) h
   link-sync-bound (started a k f r) g h = rw (r .link) h
   link-sync-bound (accepted r) g h = omega (arith, r .sync)
-  link-sync-bound (abandoned r) g h = rw (r .peer) (settled-link (τ .limit + 1) (withRun p noRun) h)
-  link-sync-bound (ended r) g h = rw (r .peer) (settled-link (τ .limit + 1) (withLink p noLink) (omega arith))
+  link-sync-bound (abandoned r) g h = rw (r .peer) (settled-link (κ .limit + 1) (withRun p noRun) h)
+  link-sync-bound (ended r) g h = rw (r .peer) (settled-link (κ .limit + 1) (withLink p noLink) (omega arith))
   link-sync-bound (again r) g h = omega (arith, r .sync, r .low)
 
 -- in Confirmed Sc is Sync + 1, before a step and after it: the form says so, and every step keeps the form
-pub confirmed-sc : (own gs a : List ℕ) (p : Peer) → Kept own gs a p → p .run .state ≡ 2 → p .run .sc ≡ p .run .sync + 1
-confirmed-sc own gs a p k e = run-is-confirmed gs (p .run) e (parts own gs a p k .run) .sc
+pub confirmed-sc : (own gs : List ℕ) (high : ℕ) (a : List ℕ) (p : Peer) → Kept own gs high a p → p .run .state ≡ 2 → p .run .sc ≡ p .run .sync + 1
+confirmed-sc own gs high a p k e = run-is-confirmed gs high (p .run) e (parts own gs high a p k .run) .sc
 
 -- ---- Confirmed: the stored peer commit stays while the run lasts
 
@@ -507,9 +508,9 @@ module _ (p : Peer) where
   unfolding abandoning
   abandon-stands = record { stands = inr (inl refl) }
 
-  count-stands : (τ : Timing) (sc : ℕ) (fs : Frames) (time : ℕ) → Stands p (sending τ p (withSync (withSc (p .run) sc) (p .run .sync + 1)) fs 0 time)
+  count-stands : (κ : Clock) (sc : ℕ) (fs : Frames) → Stands p (sending κ p (withSync (withSc (p .run) sc) (p .run .sync + 1)) fs 0)
   unfolding withSync withSc sending withRun setT0
-  count-stands τ sc fs time = record { stands = inl (record { state = refl; group = refl; own = refl; peer = refl }) }
+  count-stands κ sc fs = record { stands = inl (record { state = refl; group = refl; own = refl; peer = refl }) }
 
   accept-stands : (counter time : ℕ) → Stands p (accepting p counter time)
   unfolding accepting
@@ -538,10 +539,10 @@ module _ (t : Terms) (c : Call) (p : Peer) (m : Message) (h : p .run .state ≡ 
   act-stands (switch-group s z g) = absurd (omega (arith, h, s))
   act-stands (repeat-commit s z) = absurd (omega (arith, h, s))
   act-stands (repeat-refusal s z l) = absurd (omega (arith, h, s))
-  act-stands (resend-both s z l g) = count-stands p (t .timing) _ _ (c .time)
-  act-stands (confirm-again s z) = repeat-outcomes (Stands p) (t .timing) p _ _ (c .time) (λ e. abandon-stands p) (λ e. count-stands p (t .timing) _ _ (c .time))
+  act-stands (resend-both s z l g) = count-stands p (c .clock) _ _
+  act-stands (confirm-again s z) = repeat-outcomes (Stands p) (c .clock) p _ _ (λ e. abandon-stands p) (λ e. count-stands p (c .clock) _ _)
   act-stands (give-up s z e) = abandon-stands p
-  act-stands (accept s d z v) = accept-stands p _ (c .time)
+  act-stands (accept s d z v) = accept-stands p _ (c .clock .time)
   act-stands (hear-again r n l i v) = absurd (r .not-confirmed h)
   act-stands (hear-last r n l i v) = absurd (r .not-confirmed h)
   act-stands end-link = end-stands p h
@@ -549,7 +550,7 @@ module _ (t : Terms) (c : Call) (p : Peer) (m : Message) (h : p .run .state ≡ 
   pub commit-stands : m .sequence ≡ 1 → Stands p (perform t c p m (commitAct t c p m))
   commit-stands f = act-stands (commit-asked t c p m f)
 
-  pub confirm-stands : (m .sequence ≡ 1 → ⊥) → Stands p (perform t c p m (confirmAct t c p m))
+  pub confirm-stands : (m .sequence ≡ 1 → ⊥) → Stands p (perform t c p m (confirmAct c p m))
   confirm-stands d = act-stands (confirm-asked t c p m d)
 
 pub expire-stands : (t : Terms) (c : Call) (p : Peer) → p .run .state ≡ 2 → Stands p (onClock t c p)
@@ -561,20 +562,20 @@ expire-stands t c p h = act-stands t c p silence h (clock-asked t c p (inr (inr 
 pub record LinkStays (p : Peer) (s : Step) : Type 0 where
   pub stays : (s .peer .link ≡ p .link) ⊎ (s .peer .link ≡ supersede (p .link))
 
-pub data LinkDid (τ : Timing) (time : ℕ) (p : Peer) (s : Step) : Type 0 where
-  stays : LinkStays p s → LinkDid τ time p s
-  accepted : Accepted time p s → LinkDid τ time p s
-  ended : Ended p s → LinkDid τ time p s
-  freed : Abandoned p s → s .peer ≡ noPeer → LinkDid τ time p s
-  again : Again τ p s → LinkDid τ time p s
+pub data LinkDid (κ : Clock) (p : Peer) (s : Step) : Type 0 where
+  stays : LinkStays p s → LinkDid κ p s
+  accepted : Accepted (κ .time) p s → LinkDid κ p s
+  ended : Ended p s → LinkDid κ p s
+  freed : Abandoned p s → s .peer ≡ noPeer → LinkDid κ p s
+  again : Again κ p s → LinkDid κ p s
 
 -- a run that is given up leaves the link, or frees a record that has none
 abandoned-link : (p : Peer) → (settled (withRun p noRun) ≡ noPeer) ⊎ (settled (withRun p noRun) .link ≡ p .link)
 unfolding withRun
 abandoned-link p = settle-outcomes (λ (q : Peer). (q ≡ noPeer) ⊎ (q .link ≡ p .link)) (withRun p noRun) (λ x y. inl refl) (λ d. inr refl)
 
-module _ (τ : Timing) (time : ℕ) (p : Peer) (s : Step) where
-  pub link-did : Did τ time p s → LinkDid τ time p s
+module _ (κ : Clock) (p : Peer) (s : Step) where
+  pub link-did : Did κ p s → LinkDid κ p s
   link-did (dropped r) = stays (record { stays = inl (ap (λ (q : Peer). q .link) (r .peer)) })
   link-did (answered r) = stays (record { stays = inl (ap (λ (q : Peer). q .link) (r .peer)) })
   link-did (refused r) = stays (record { stays = inl (ap (λ (q : Peer). q .link) (r .peer)) })

@@ -14,34 +14,35 @@ use Rattle.record.specs.Layout.{noPeer}
 use Rattle.rules.specs.declared.Frames.{Frames}
 use Rattle.rules.specs.declared.Frames.the-variants.{One}
 use Rattle.rules.specs.Parts.{withSync, switched}
-use Rattle.rules.specs.Book.{_is_, _above_, Timing, Step, commitFrame, sending, settled, abandoning, retransmitting, switchingTo, switching}
+use Rattle.rules.specs.declared.Clock.{Clock}
+use Rattle.rules.specs.Book.{_is_, _above_, Step, commitFrame, sending, settled, abandoning, retransmitting, switchingTo, switching}
 
 pub whether : {A : Type 0} (P : A → Type 0) (b : Bool) (x y : A) → (b ≡ true → P x) → (b ≡ false → P y) → P (if b then x else y)
 whether P true x y f g = f refl
 whether P false x y f g = g refl
 
 -- "77: our group": a group is left, or none is
-pub switch-outcomes : (P : Step → Type 0) (τ : Timing) (p : Peer) (groups fresh : List ℕ) (time : ℕ) →
+pub switch-outcomes : (P : Step → Type 0) (κ : Clock) (p : Peer) (groups fresh : List ℕ) →
     ((i g : ℕ) → firstLeft groups 0 (mark (p .run .rejected) (indexOf groups (p .run .group))) ≡ choice.Group i g
-    → P (sending τ p (switched (p .run) (mark (p .run .rejected) (indexOf groups (p .run .group))) g (freshAt fresh i)) (One (commitFrame g)) g time))
+    → P (sending κ p (switched (p .run) (mark (p .run .rejected) (indexOf groups (p .run .group))) g (freshAt fresh i)) (One (commitFrame g)) g))
     → (firstLeft groups 0 (mark (p .run .rejected) (indexOf groups (p .run .group))) ≡ choice.None → P (abandoning p))
-    → P (switching τ p groups fresh time)
+    → P (switching κ p groups fresh)
 unfolding switching switchingTo
-switch-outcomes P τ p groups fresh time f g = go (mark (p .run .rejected) (indexOf groups (p .run .group))) (firstLeft groups 0 (mark (p .run .rejected) (indexOf groups (p .run .group)))) f g
+switch-outcomes P κ p groups fresh f g = go (mark (p .run .rejected) (indexOf groups (p .run .group))) (firstLeft groups 0 (mark (p .run .rejected) (indexOf groups (p .run .group)))) f g
   where
     go : (r : ℕ) (c : Choice) →
-        ((i g : ℕ) → c ≡ choice.Group i g → P (sending τ p (switched (p .run) r g (freshAt fresh i)) (One (commitFrame g)) g time))
-        → (c ≡ choice.None → P (abandoning p)) → P (switchingTo τ p r c fresh time)
+        ((i g : ℕ) → c ≡ choice.Group i g → P (sending κ p (switched (p .run) r g (freshAt fresh i)) (One (commitFrame g)) g))
+        → (c ≡ choice.None → P (abandoning p)) → P (switchingTo κ p r c fresh)
     go r (choice.Group i g) f h = f i g refl
     go r choice.None f h = h refl
 
-pub repeat-outcomes : (P : Step → Type 0) (τ : Timing) (p : Peer) (r : Run) (fs : Frames) (time : ℕ) →
-    (τ .limit < p .run .sync → P (abandoning p))
-    → (p .run .sync ≤ τ .limit → P (sending τ p (withSync r (p .run .sync + 1)) fs 0 time))
-    → P (retransmitting τ p r fs time)
+pub repeat-outcomes : (P : Step → Type 0) (κ : Clock) (p : Peer) (r : Run) (fs : Frames) →
+    (κ .limit < p .run .sync → P (abandoning p))
+    → (p .run .sync ≤ κ .limit → P (sending κ p (withSync r (p .run .sync + 1)) fs 0))
+    → P (retransmitting κ p r fs)
 unfolding retransmitting
-repeat-outcomes P τ p r fs time f g =
-    whether P (p .run .sync above τ .limit) (abandoning p) (sending τ p (withSync r (p .run .sync + 1)) fs 0 time)
+repeat-outcomes P κ p r fs f g =
+    whether P (p .run .sync above κ .limit) (abandoning p) (sending κ p (withSync r (p .run .sync + 1)) fs 0)
     (λ e. f (ltb-true _ _ e)) (λ e. g (ltb-false _ _ e))
 
 pub settle-outcomes : (P : Peer → Type 0) (p : Peer) →

@@ -1,7 +1,6 @@
 -- NO SLOT: an act refuses if it is NoSlot, which no ladder names where a slot is free; where none is, an address without a record keeps none.
 use mathlib.Core.Path.{_≡_, refl, ap, _∙_}
 use mathlib.Core.Bool.{Bool, true, false}
-use Prim.Native.Nat.{ℕ}
 use native.Mathlib.Omega.{arith}
 use Rattle.octets.specs.Scan.{if_then_else_}
 use Rattle.octets.proofs.Scan.{clash}
@@ -13,7 +12,8 @@ use Rattle.rules.specs.declared.Frames.{Frames}
 use Rattle.rules.specs.declared.Act.{Act}
 use Rattle.rules.specs.declared.Act.the-variants as act
 use Rattle.rules.specs.Parts.{withLink}
-use Rattle.rules.specs.Book.{_is_, holds, Timing, Terms, Call, Step, silence, t0Due, perform, sending, answering, refusing, settled, abandoning, endingLink, retransmitting, dropping, forming, starting, switching, accepting, answeringCommit, confirmingCommit, replyingToken, repeatingCommit, repeatingRefusal, resendingBoth, confirmingAgain, hearingAgain, hearingLast, startAct, frameAct, clockAct, onFrame, onClock, onStart}
+use Rattle.rules.specs.declared.Clock.{Clock}
+use Rattle.rules.specs.Book.{_is_, holds, Terms, Call, Step, silence, t0Due, perform, sending, answering, refusing, settled, abandoning, endingLink, retransmitting, dropping, forming, starting, switching, accepting, answeringCommit, confirmingCommit, replyingToken, repeatingCommit, repeatingRefusal, resendingBoth, confirmingAgain, hearingAgain, hearingLast, startAct, frameAct, clockAct, onFrame, onClock, onStart}
 use Rattle.rules.specs.Asked.{Asked, refuse-group, ask-token, no-slot, begin, answer-commit, confirm-commit, reply-token, switch-group, repeat-commit, repeat-refusal, resend-both, confirm-again, give-up, accept, hear-again, hear-last, end-link, drop}
 use Rattle.rules.proofs.Ladders.{frame-asked}
 use Rattle.rule_laws.specs.Slots.{isNoSlot}
@@ -23,9 +23,9 @@ abbrev Seated : Step → Type 0
 Seated s = s .refused ≡ false
 
 -- a repeat sends or gives up
-repeat-seated : (τ : Timing) (p : Peer) (r : Run) (fs : Frames) (time : ℕ) → Seated (retransmitting τ p r fs time)
+repeat-seated : (κ : Clock) (p : Peer) (r : Run) (fs : Frames) → Seated (retransmitting κ p r fs)
 unfolding sending abandoning
-repeat-seated τ p r fs time = repeat-outcomes Seated τ p r fs time (λ h. refl) (λ h. refl)
+repeat-seated κ p r fs = repeat-outcomes Seated κ p r fs (λ h. refl) (λ h. refl)
 
 -- the free record has no run and no link
 free-run : (p : Peer) → p ≡ noPeer → p .run .state ≡ 0
@@ -49,12 +49,12 @@ module _ (t : Terms) (c : Call) (p : Peer) (m : Message) where
   refused-act act.NoSlot = refl
   refused-act act.AnswerCommit = refl
   refused-act act.ConfirmCommit = refl
-  refused-act act.ReplyToken = repeat-seated (t .timing) p _ _ (c .time)
-  refused-act act.SwitchGroup = switch-outcomes Seated (t .timing) p (t .groups) (c .fresh) (c .time) (λ i g h. refl) (λ h. refl)
-  refused-act act.RepeatCommit = repeat-seated (t .timing) p _ _ (c .time)
-  refused-act act.RepeatRefusal = repeat-seated (t .timing) p _ _ (c .time)
+  refused-act act.ReplyToken = repeat-seated (c .clock) p _ _
+  refused-act act.SwitchGroup = switch-outcomes Seated (c .clock) p (t .groups) (c .fresh) (λ i g h. refl) (λ h. refl)
+  refused-act act.RepeatCommit = repeat-seated (c .clock) p _ _
+  refused-act act.RepeatRefusal = repeat-seated (c .clock) p _ _
   refused-act act.ResendBoth = refl
-  refused-act act.ConfirmAgain = repeat-seated (t .timing) p _ _ (c .time)
+  refused-act act.ConfirmAgain = repeat-seated (c .clock) p _ _
   refused-act act.GiveUp = refl
   refused-act act.Accept = refl
   refused-act act.HearAgain = refl
@@ -132,7 +132,7 @@ start-seated t c p f = start-refused t c p ∙ f
 -- a deadline: the clock's acts refuse nothing
 pub clock-seated : (t : Terms) (c : Call) (p : Peer) → onClock t c p .refused ≡ false
 unfolding onClock clockAct
-clock-seated t c p = refused-act t c p silence (clockAct p (c .time)) ∙ go (holds (t0Due p (c .time))) (p .run .state is 2)
+clock-seated t c p = refused-act t c p silence (clockAct p (c .clock .time)) ∙ go (holds (t0Due p (c .clock .time))) (p .run .state is 2)
   where
     go : (a b : Bool) → isNoSlot (if a then (if b then act.ConfirmAgain else act.RepeatCommit) else act.EndLink) ≡ false
     go true true = refl

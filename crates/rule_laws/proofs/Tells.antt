@@ -12,7 +12,8 @@ use Rattle.rules.specs.declared.Frame.{Frame}
 use Rattle.rules.specs.declared.Frames.{Frames}
 use Rattle.rules.specs.declared.Frames.the-variants.{None, One, Two}
 use Rattle.rules.specs.Parts.{withSync, withSc, withToken, switched, heardAgain, withRun, withLink}
-use Rattle.rules.specs.Book.{Timing, Terms, Call, Step, silence, commitFrame, tokenRequestFrame, groupRefusalFrame, confirmFrame, setT0, sending, answering, refusing, abandoning, endingLink, dropping, formedRun, forming, startedRun, starting, accepting, answeringCommit, confirmingCommit, replyingToken, repeatingCommit, repeatingRefusal, confirmingAgain, resendingBoth, hearingLast, hearingAgain, perform, onFrame, onClock, onStart}
+use Rattle.rules.specs.declared.Clock.{Clock}
+use Rattle.rules.specs.Book.{Terms, Call, Step, silence, commitFrame, tokenRequestFrame, groupRefusalFrame, confirmFrame, setT0, sending, answering, refusing, abandoning, endingLink, dropping, formedRun, forming, startedRun, starting, accepting, answeringCommit, confirmingCommit, replyingToken, repeatingCommit, repeatingRefusal, confirmingAgain, resendingBoth, hearingLast, hearingAgain, perform, onFrame, onClock, onStart}
 use Rattle.rules.specs.Asked.{NoRun, Asked, refuse-group, ask-token, no-slot, begin, answer-commit, confirm-commit, reply-token, switch-group, repeat-commit, repeat-refusal, resend-both, confirm-again, give-up, accept, hear-again, hear-last, end-link, drop}
 use Rattle.rules.proofs.Ladders.{start-asked, frame-asked, clock-asked}
 use Rattle.rule_laws.proofs.Outcomes.{repeat-outcomes, switch-outcomes}
@@ -39,21 +40,21 @@ silent-end : (p : Peer) → Truthful (abandoning p)
 unfolding abandoning
 silent-end p = record { tells = tell-none }
 
-send-commit : (τ : Timing) (p : Peer) (r : Run) (afresh time : ℕ) → (r .state ≡ 0 → ⊥) → Truthful (sending τ p r (One (commitFrame (r .group))) afresh time)
+send-commit : (κ : Clock) (p : Peer) (r : Run) (afresh : ℕ) → (r .state ≡ 0 → ⊥) → Truthful (sending κ p r (One (commitFrame (r .group))) afresh)
 unfolding sending withRun setT0
-send-commit τ p r afresh time d = record { tells = tell-one (a-commit refl d) }
+send-commit κ p r afresh d = record { tells = tell-one (a-commit refl d) }
 
-send-refusal : (τ : Timing) (p : Peer) (r : Run) (g time : ℕ) → g < 65536 → Truthful (sending τ p r (One (groupRefusalFrame g)) 0 time)
+send-refusal : (κ : Clock) (p : Peer) (r : Run) (g : ℕ) → g < 65536 → Truthful (sending κ p r (One (groupRefusalFrame g)) 0)
 unfolding sending
-send-refusal τ p r g time h = record { tells = tell-one (a-refusal h) }
+send-refusal κ p r g h = record { tells = tell-one (a-refusal h) }
 
-send-confirm : (τ : Timing) (p : Peer) (r : Run) (time : ℕ) → r .state ≡ 2 → Truthful (sending τ p r (One (confirmFrame (r .sc))) 0 time)
+send-confirm : (κ : Clock) (p : Peer) (r : Run) → r .state ≡ 2 → Truthful (sending κ p r (One (confirmFrame (r .sc))) 0)
 unfolding sending withRun setT0
-send-confirm τ p r time e = record { tells = tell-one (a-confirm refl e) }
+send-confirm κ p r e = record { tells = tell-one (a-confirm refl e) }
 
-send-both : (τ : Timing) (p : Peer) (r : Run) (time : ℕ) → r .state ≡ 2 → Truthful (sending τ p r (Two (commitFrame (r .group)) (confirmFrame (r .sc))) 0 time)
+send-both : (κ : Clock) (p : Peer) (r : Run) → r .state ≡ 2 → Truthful (sending κ p r (Two (commitFrame (r .group)) (confirmFrame (r .sc))) 0)
 unfolding sending withRun setT0
-send-both τ p r time e = record { tells = tell-two (a-commit refl (λ z. omega arith)) (a-confirm refl e) }
+send-both κ p r e = record { tells = tell-two (a-commit refl (λ z. omega arith)) (a-confirm refl e) }
 
 -- ---- EVERY ACT
 
@@ -77,16 +78,16 @@ module _ (t : Terms) (c : Call) (p : Peer) (m : Message) (h : m .group < 65536) 
   truthful-act (answer-commit d r o e) = record { tells = tell-two (a-commit refl (λ z. omega (arith, z))) (a-confirm refl refl) }
   truthful-act (confirm-commit s o g e) = record { tells = tell-one (a-confirm refl refl) }
   truthful-act (reply-token s z g) =
-      repeat-outcomes Truthful (t .timing) p _ _ (c .time) (λ e. silent-end p)
-      (λ e. send-commit (t .timing) p (withSync (withToken (p .run) (m .toklen) (m .token)) (p .run .sync + 1)) 0 (c .time) (λ q. omega arith))
+      repeat-outcomes Truthful (c .clock) p _ _ (λ e. silent-end p)
+      (λ e. send-commit (c .clock) p (withSync (withToken (p .run) (m .toklen) (m .token)) (p .run .sync + 1)) 0 (λ q. omega arith))
   truthful-act (switch-group s z g) =
-      switch-outcomes Truthful (t .timing) p (t .groups) (c .fresh) (c .time) (λ i k e. send-commit (t .timing) p (switched (p .run) _ k _) k (c .time) (λ q. omega arith)) (λ e. silent-end p)
+      switch-outcomes Truthful (c .clock) p (t .groups) (c .fresh) (λ i k e. send-commit (c .clock) p (switched (p .run) _ k _) k (λ q. omega arith)) (λ e. silent-end p)
   truthful-act (repeat-commit s z) =
-      repeat-outcomes Truthful (t .timing) p _ _ (c .time) (λ e. silent-end p) (λ e. send-commit (t .timing) p (withSync (p .run) (p .run .sync + 1)) 0 (c .time) (λ q. omega arith))
-  truthful-act (repeat-refusal s z l) = repeat-outcomes Truthful (t .timing) p _ _ (c .time) (λ e. silent-end p) (λ e. send-refusal (t .timing) p _ (m .group) (c .time) h)
-  truthful-act (resend-both s z l g) = send-both (t .timing) p (withSync (withSc (p .run) (p .run .sc + 1)) (p .run .sync + 1)) (c .time) s
+      repeat-outcomes Truthful (c .clock) p _ _ (λ e. silent-end p) (λ e. send-commit (c .clock) p (withSync (p .run) (p .run .sync + 1)) 0 (λ q. omega arith))
+  truthful-act (repeat-refusal s z l) = repeat-outcomes Truthful (c .clock) p _ _ (λ e. silent-end p) (λ e. send-refusal (c .clock) p _ (m .group) h)
+  truthful-act (resend-both s z l g) = send-both (c .clock) p (withSync (withSc (p .run) (p .run .sc + 1)) (p .run .sync + 1)) s
   truthful-act (confirm-again s z) =
-      repeat-outcomes Truthful (t .timing) p _ _ (c .time) (λ e. silent-end p) (λ e. send-confirm (t .timing) p (withSync (withSc (p .run) (p .run .sc + 1)) (p .run .sync + 1)) (c .time) s)
+      repeat-outcomes Truthful (c .clock) p _ _ (λ e. silent-end p) (λ e. send-confirm (c .clock) p (withSync (withSc (p .run) (p .run .sc + 1)) (p .run .sync + 1)) s)
   truthful-act (give-up s z e) = record { tells = tell-none }
   truthful-act (accept s d z v) = record { tells = tell-none }
   truthful-act (hear-again r n l i v) = record { tells = tell-one (an-answer (no-run p states r) n) }

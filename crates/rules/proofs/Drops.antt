@@ -70,7 +70,7 @@ module _ (t : Terms) (c : Call) (p : Peer) (m : Message) where
   drop-unchanged d = ap (perform t c p m) (drop-named d)
 
   -- NOT EVERY EMPTY ANSWER IS A DROP: a link's Confirm with counter 65,535 above Rc, the verdict being 1, answers nothing, and Rc becomes 65,535
-  pub last-heard : NoRun p → (p .link .finished ≡ 0 → ⊥) → (m .sequence ≡ 1 → ⊥) → m .status ≡ 0 → p .link .sync ≤ t .timing .limit → p .link .rc < m .counter
+  pub last-heard : NoRun p → (p .link .finished ≡ 0 → ⊥) → (m .sequence ≡ 1 → ⊥) → m .status ≡ 0 → p .link .sync ≤ c .clock .limit → p .link .rc < m .counter
       → m .counter ≡ 65535 → c .verified ≡ true → onFrame t c p m ≡ answering (withLink p (heardAgain (p .link) 65535 (p .link .sync))) None
   unfolding onFrame frameAct confirmAct confirmLinked holds perform hearingLast
   last-heard r n f z l h e v =

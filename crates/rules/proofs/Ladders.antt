@@ -77,11 +77,11 @@ module _ (t : Terms) (c : Call) (p : Peer) (m : Message) where
         (λ o. rung Names (not (c .verified)) _ _ (λ e. drop (ours-verdict s k b e))
         (λ v. confirm-commit s (record { status = is-zero _ z; listed = not-false _ l; verified = not-false _ v }) b o)))))))
 
-    confirmed-asked : p .run .state ≡ 2 → Names (commitConfirmed t p m)
+    confirmed-asked : p .run .state ≡ 2 → Names (commitConfirmed c p m)
     unfolding commitConfirmed
     confirmed-asked s =
         rung Names (m .status isnt 0) _ _ (λ e. drop (confirmed-status s f (not-zero _ e)))
-        (λ z. rung Names (p .run .sync above t .timing .limit) _ _ (λ e. give-up s (is-zero _ z) (ltb-true _ _ e))
+        (λ z. rung Names (p .run .sync above c .clock .limit) _ _ (λ e. give-up s (is-zero _ z) (ltb-true _ _ e))
         (λ l. rung Names (m .group isnt p .run .group) _ _ (λ e. drop (confirmed-group s f (ltb-false _ _ l) (eqb-false _ _ (not-true _ e))))
         (λ g. resend-both s (is-zero _ z) (ltb-false _ _ l) (eqb-true _ _ (not-false _ g)))))
 
@@ -104,18 +104,18 @@ module _ (t : Terms) (c : Call) (p : Peer) (m : Message) where
         rung Names (m .status isnt 0) _ _ (λ e. drop (confirmed-confirm s f (not-zero _ e)))
         (λ z. rung Names (not (c .verified)) _ _ (λ e. drop (confirmed-verdict s f e)) (λ v. accept s f (is-zero _ z) (not-false _ v)))
 
-    confirm-linked-asked : NoRun p → (p .link .finished ≡ 0 → ⊥) → Names (confirmLinked t c p m)
+    confirm-linked-asked : NoRun p → (p .link .finished ≡ 0 → ⊥) → Names (confirmLinked c p m)
     unfolding confirmLinked holds
     confirm-linked-asked r n =
         rung Names (m .status isnt 0) _ _ (λ e. drop (link-status r n f (not-zero _ e)))
-        (λ z. rung Names (p .link .sync above t .timing .limit) _ _ (λ e. end-link)
+        (λ z. rung Names (p .link .sync above c .clock .limit) _ _ (λ e. end-link)
         (λ l. let b = ltb-false _ _ l in
         rung Names (not (m .counter above p .link .rc)) _ _ (λ e. drop (link-counter r n f b (ltb-false _ _ (not-true _ e))))
         (λ h. rung Names (not (c .verified)) _ _ (λ e. drop (link-verdict r n f b e))
         (λ v. rung Names (m .counter is 65535) _ _ (λ e. hear-last r n b (ltb-true _ _ (not-false _ h)) (not-false _ v))
         (λ e. hear-again r n b (ltb-true _ _ (not-false _ h)) (not-false _ v))))))
 
-    pub confirm-asked : Names (confirmAct t c p m)
+    pub confirm-asked : Names (confirmAct c p m)
     unfolding confirmAct
     confirm-asked =
         rung Names (p .run .state is 1) _ _ (λ e. confirm-committed-asked (eqb-true _ _ e))
@@ -128,10 +128,10 @@ module _ (t : Terms) (c : Call) (p : Peer) (m : Message) where
   frame-asked = rung Names (m .sequence is 1) _ _ (λ e. commit-asked (eqb-true _ _ e)) (λ e. confirm-asked (eqb-false _ _ e))
 
 -- a deadline: "t0 before t1"
-pub clock-asked : (t : Terms) (c : Call) (p : Peer) → (p .run .state ≡ 0) ⊎ ((p .run .state ≡ 1) ⊎ (p .run .state ≡ 2)) → Asked t c p silence (clockAct p (c .time))
+pub clock-asked : (t : Terms) (c : Call) (p : Peer) → (p .run .state ≡ 0) ⊎ ((p .run .state ≡ 1) ⊎ (p .run .state ≡ 2)) → Asked t c p silence (clockAct p (c .clock .time))
 unfolding clockAct holds t0Due
 clock-asked t c p states =
-    rung (Asked t c p silence) (t0Due p (c .time)) _ _
+    rung (Asked t c p silence) (t0Due p (c .clock .time)) _ _
     (λ q. rung (Asked t c p silence) (p .run .state is 2) _ _ (λ e. confirm-again (eqb-true _ _ e) refl)
     (λ d. repeat-commit (one states (eqb-false _ _ (not-true _ (and-left _ _ q))) (eqb-false _ _ d)) refl))
     (λ e. end-link)
@@ -142,15 +142,15 @@ clock-asked t c p states =
     one (inr (inr e)) d₀ d₂ = absurd (d₂ e)
 
 -- what the two acts that count without a test of their own ask for
-resend-low : (t : Terms) (c : Call) (p : Peer) (m : Message) → Asked t c p m ResendBoth → p .run .sync ≤ t .timing .limit
+resend-low : (t : Terms) (c : Call) (p : Peer) (m : Message) → Asked t c p m ResendBoth → p .run .sync ≤ c .clock .limit
 resend-low t c p m (resend-both s z l g) = l
 
-hear-low : (t : Terms) (c : Call) (p : Peer) (m : Message) → Asked t c p m HearAgain → p .link .sync ≤ t .timing .limit
+hear-low : (t : Terms) (c : Call) (p : Peer) (m : Message) → Asked t c p m HearAgain → p .link .sync ≤ c .clock .limit
 hear-low t c p m (hear-again r n l h v) = l
 
-pub able : (t : Terms) (c : Call) (p : Peer) (m : Message) (a b : Act) → t .timing .limit ≡ 5 → a ≡ b → Asked t c p m b → Able a p
-able t c p m a b f e k =
+pub able : (t : Terms) (c : Call) (p : Peer) (m : Message) (a b : Act) → a ≡ b → Asked t c p m b → Able (c .clock) a p
+able t c p m a b e k =
     record {
-      resend = λ q. subst (λ (n : ℕ). p .run .sync ≤ n) f (resend-low t c p m (subst (Asked t c p m) (sym e ∙ q) k));
-      hear = λ q. subst (λ (n : ℕ). p .link .sync ≤ n) f (hear-low t c p m (subst (Asked t c p m) (sym e ∙ q) k));
+      resend = λ q. resend-low t c p m (subst (Asked t c p m) (sym e ∙ q) k);
+      hear = λ q. hear-low t c p m (subst (Asked t c p m) (sym e ∙ q) k);
     }

@@ -16,12 +16,12 @@ module _ (t : Terms) (c : Call) (p : Peer) (m : Message) (s : p .run .state ≡ 
   reply-named = rw (f, s, z, eq-eqb _ _ g) refl
 
   -- "it gives up above the limit": what a run given up leaves, whatever the 76 carries
-  pub reply-given-up : t .timing .limit < p .run .sync → onFrame t c p m ≡ abandoning p
+  pub reply-given-up : c .clock .limit < p .run .sync → onFrame t c p m ≡ abandoning p
   unfolding onFrame perform replyingToken retransmitting
   reply-given-up l = ap (perform t c p m) reply-named ∙ rw (lt-ltb _ _ l) refl
 
   -- "and raises Sync": t0 goes by the raised one
-  pub reply-counted : p .run .sync ≤ t .timing .limit → onFrame t c p m
-      ≡ sending (t .timing) p (withSync (withToken (p .run) (m .toklen) (m .token)) (p .run .sync + 1)) (One (commitFrame (p .run .group))) 0 (c .time)
+  pub reply-counted : p .run .sync ≤ c .clock .limit → onFrame t c p m
+      ≡ sending (c .clock) p (withSync (withToken (p .run) (m .toklen) (m .token)) (p .run .sync + 1)) (One (commitFrame (p .run .group))) 0
   unfolding onFrame perform replyingToken retransmitting
   reply-counted l = ap (perform t c p m) reply-named ∙ rw (le-ltb _ _ l) refl

@@ -58,7 +58,7 @@ pub data Drops (t : Terms) (c : Call) (p : Peer) (m : Message) : Type 0 where
   -- "Confirmed. Commit: status nonzero, drop;
   confirmed-status : p .run .state ≡ 2 → m .sequence ≡ 1 → (m .status ≡ 0 → ⊥) → Drops t c p m
   --  Sync above 5, give up; group differs, drop;"
-  confirmed-group : p .run .state ≡ 2 → m .sequence ≡ 1 → p .run .sync ≤ t .timing .limit → (m .group ≡ p .run .group → ⊥) → Drops t c p m
+  confirmed-group : p .run .state ≡ 2 → m .sequence ≡ 1 → p .run .sync ≤ c .clock .limit → (m .group ≡ p .run .group → ⊥) → Drops t c p m
   -- "Confirm: status nonzero
   confirmed-confirm : p .run .state ≡ 2 → (m .sequence ≡ 1 → ⊥) → (m .status ≡ 0 → ⊥) → Drops t c p m
   --  or verdict 0, drop;"
@@ -66,9 +66,9 @@ pub data Drops (t : Terms) (c : Call) (p : Peer) (m : Message) : Type 0 where
   -- "Link, no run, Confirm: status nonzero, drop;
   link-status : NoRun p → (p .link .finished ≡ 0 → ⊥) → (m .sequence ≡ 1 → ⊥) → (m .status ≡ 0 → ⊥) → Drops t c p m
   --  its Sync above 5, link ends; counter not above Rc, drop;
-  link-counter : NoRun p → (p .link .finished ≡ 0 → ⊥) → (m .sequence ≡ 1 → ⊥) → p .link .sync ≤ t .timing .limit → m .counter ≤ p .link .rc → Drops t c p m
+  link-counter : NoRun p → (p .link .finished ≡ 0 → ⊥) → (m .sequence ≡ 1 → ⊥) → p .link .sync ≤ c .clock .limit → m .counter ≤ p .link .rc → Drops t c p m
   --  verdict 0, drop;"
-  link-verdict : NoRun p → (p .link .finished ≡ 0 → ⊥) → (m .sequence ≡ 1 → ⊥) → p .link .sync ≤ t .timing .limit → unverified c ≡ true → Drops t c p m
+  link-verdict : NoRun p → (p .link .finished ≡ 0 → ⊥) → (m .sequence ≡ 1 → ⊥) → p .link .sync ≤ c .clock .limit → unverified c ≡ true → Drops t c p m
   -- "Confirm with neither: drop."
   neither : NoRun p → p .link .finished ≡ 0 → (m .sequence ≡ 1 → ⊥) → Drops t c p m
 
@@ -96,13 +96,13 @@ pub data Asked (t : Terms) (c : Call) (p : Peer) (m : Message) : Act → Type 0 
   repeat-commit : p .run .state ≡ 1 → m .status ≡ 0 → Asked t c p m RepeatCommit
   repeat-refusal : p .run .state ≡ 1 → m .status ≡ 0 → m .listed ≡ false → Asked t c p m RepeatRefusal
   -- in Confirmed
-  resend-both : p .run .state ≡ 2 → m .status ≡ 0 → p .run .sync ≤ t .timing .limit → m .group ≡ p .run .group → Asked t c p m ResendBoth
+  resend-both : p .run .state ≡ 2 → m .status ≡ 0 → p .run .sync ≤ c .clock .limit → m .group ≡ p .run .group → Asked t c p m ResendBoth
   confirm-again : p .run .state ≡ 2 → m .status ≡ 0 → Asked t c p m ConfirmAgain
-  give-up : p .run .state ≡ 2 → m .status ≡ 0 → t .timing .limit < p .run .sync → Asked t c p m GiveUp
+  give-up : p .run .state ≡ 2 → m .status ≡ 0 → c .clock .limit < p .run .sync → Asked t c p m GiveUp
   accept : p .run .state ≡ 2 → (m .sequence ≡ 1 → ⊥) → m .status ≡ 0 → c .verified ≡ true → Asked t c p m Accept
   -- with a link and no run
-  hear-again : NoRun p → (p .link .finished ≡ 0 → ⊥) → p .link .sync ≤ t .timing .limit → p .link .rc < m .counter → c .verified ≡ true → Asked t c p m HearAgain
-  hear-last : NoRun p → (p .link .finished ≡ 0 → ⊥) → p .link .sync ≤ t .timing .limit → p .link .rc < m .counter → c .verified ≡ true → Asked t c p m HearLast
+  hear-again : NoRun p → (p .link .finished ≡ 0 → ⊥) → p .link .sync ≤ c .clock .limit → p .link .rc < m .counter → c .verified ≡ true → Asked t c p m HearAgain
+  hear-last : NoRun p → (p .link .finished ≡ 0 → ⊥) → p .link .sync ≤ c .clock .limit → p .link .rc < m .counter → c .verified ≡ true → Asked t c p m HearLast
   -- always
   end-link : Asked t c p m EndLink
   -- in one of its places

@@ -17,9 +17,10 @@ use Rattle.groups.specs.declared.Choice.the-variants as choice
 use Rattle.record.specs.declared.Run.{Run}
 use Rattle.record.specs.declared.Link.{Link}
 use Rattle.record.specs.declared.Peer.{Peer}
-use Rattle.record.specs.Layout.{noRun, noLink, noPeer, factoryPeriod, factoryLimit}
+use Rattle.record.specs.Layout.{noRun, noLink, noPeer}
 use Rattle.rules.specs.Parts.{withT0, withSync, withSc, withToken, switched, withMark, heardAgain, withRun, withLink}
 use Rattle.rules.specs.Message.{Message}
+use Rattle.rules.specs.declared.Clock.{Clock}
 use Rattle.rules.specs.declared.Act.{Act}
 use Rattle.rules.specs.declared.Act.the-variants.{Drop, RefuseGroup, AskToken, NoSlot, AnswerCommit, ConfirmCommit, ReplyToken, SwitchGroup, RepeatCommit, RepeatRefusal, ResendBoth, ConfirmAgain, GiveUp, Accept, HearAgain, HearLast, EndLink, Begin}
 use Rattle.rules.specs.declared.Event.{Event}
@@ -30,21 +31,12 @@ use Rattle.rules.specs.declared.Frames.the-variants.{None, One, Two}
 
 -- ==== 1. What a rule sees =========================================================================================================================
 
--- "period 40, Sync limit 5"
-pub record Timing : Type 0 where
-  pub period : ℕ
-  pub limit : ℕ
-
-abbrev pub factory : Timing
-factory = record { period = factoryPeriod; limit = factoryLimit }
-
 -- What the table says to a peer's rules. Others' calls reach a peer only through the last two.
 pub record Terms : Type 0 where
   -- our own address
   pub own : List ℕ
   -- the groups, in order of preference
   pub groups : List ℕ
-  pub timing : Timing
   -- "Open at or above the threshold"
   pub crowded : Bool
   -- the peer has no record, and no slot is free for one
@@ -54,8 +46,8 @@ pub record Terms : Type 0 where
 pub record Call : Type 0 where
   -- the peer's address
   pub address : List ℕ
-  -- the clock's reading
-  pub time : ℕ
+  -- the clock's reading, and with it the first period and the Sync limit of the table
+  pub clock : Clock
   -- the stock: "144 octets for each group in list order"
   pub fresh : List ℕ
   -- the token "that the host expects from this sender"
@@ -152,11 +144,11 @@ abbrev pub noSlot : Terms → Bool
 noSlot t = holds (t .full)
 
 -- "Sync above 5", of the run and of the link
-abbrev pub spent : Terms → Peer → Bool
-spent t p = p .run .sync above t .timing .limit
+abbrev pub spent : Call → Peer → Bool
+spent c p = p .run .sync above c .clock .limit
 
-abbrev pub linkSpent : Terms → Peer → Bool
-linkSpent t p = p .link .sync above t .timing .limit
+abbrev pub linkSpent : Call → Peer → Bool
+linkSpent c p = p .link .sync above c .clock .limit
 
 -- a deadline of the record is due: t0 counts only with a run, t1 only with a link
 unfoldable pub t0Due : Peer → ℕ → Bool
@@ -211,10 +203,10 @@ commitCommitted t c p m =
     else ConfirmCommit  --  else Form, send Confirm."
 
 -- "Confirmed. Commit:"
-unfoldable pub commitConfirmed : Terms → Peer → Message → Act
-commitConfirmed t p m =
+unfoldable pub commitConfirmed : Call → Peer → Message → Act
+commitConfirmed c p m =
     if m .status isnt 0 then Drop  -- "status nonzero, drop;"
-    else if spent t p then GiveUp  -- "Sync above 5, give up;"
+    else if spent c p then GiveUp  -- "Sync above 5, give up;"
     else if m .group isnt p .run .group then Drop  -- "group differs, drop;"
     else ResendBoth  -- "else Sync + 1, Sc + 1, send Commit and Confirm, set t0; the stored peer commit stays."
 
@@ -232,10 +224,10 @@ confirmConfirmed c m =
     else Accept  -- "else the run becomes the link"
 
 -- "Link, no run, Confirm:"
-unfoldable pub confirmLinked : Terms → Call → Peer → Message → Act
-confirmLinked t c p m =
+unfoldable pub confirmLinked : Call → Peer → Message → Act
+confirmLinked c p m =
     if m .status isnt 0 then Drop  -- "status nonzero, drop;"
-    else if linkSpent t p then EndLink  -- "its Sync above 5, link ends;"
+    else if linkSpent c p then EndLink  -- "its Sync above 5, link ends;"
     else if not (m .counter above p .link .rc) then Drop  -- "counter not above Rc, drop;"
     else if unverified c then Drop  -- "verdict 0, drop;"
     else if m .counter is 65535 then HearLast  -- "else Rc is the counter,
@@ -253,18 +245,18 @@ clockAct p time =
 unfoldable pub commitAct : Terms → Call → Peer → Message → Act
 commitAct t c p m =
     if inCommitted p then commitCommitted t c p m
-    else if inConfirmed p then commitConfirmed t p m
+    else if inConfirmed p then commitConfirmed c p m
     else commitIdle t c p m
 
-unfoldable pub confirmAct : Terms → Call → Peer → Message → Act
-confirmAct t c p m =
+unfoldable pub confirmAct : Call → Peer → Message → Act
+confirmAct c p m =
     if inCommitted p then confirmCommitted m
     else if inConfirmed p then confirmConfirmed c m
-    else if hasLink p then confirmLinked t c p m
+    else if hasLink p then confirmLinked c p m
     else Drop  -- "Confirm with neither: drop."
 
 unfoldable pub frameAct : Terms → Call → Peer → Message → Act
-frameAct t c p m = if m .sequence is 1 then commitAct t c p m else confirmAct t c p m
+frameAct t c p m = if m .sequence is 1 then commitAct t c p m else confirmAct c p m
 
 -- ==== 3. The acts =================================================================================================================================
 
@@ -299,16 +291,16 @@ confirmFrame counter = record { sequence = 2; status = 0; group = 0; counter = c
 -- ---- the scope's own words: "Set t0", "Repeat", "Give up", "Drop", "Form"
 
 -- "40 × 2^Sync is worked out": the first period, doubled Sync times (request d)
-unfoldable pub delay : Timing → ℕ → ℕ
-delay τ sync = τ .period * 2 ^ sync
+unfoldable pub delay : Clock → ℕ → ℕ
+delay κ sync = κ .period * 2 ^ sync
 
 -- "Set t0": deadline = now + 40 × 2^Sync, modulo 2^32.
-unfoldable pub setT0 : Timing → Run → ℕ → Run
-setT0 τ r time = withT0 r (deadline time (delay τ (r .sync)))
+unfoldable pub setT0 : Clock → Run → Run
+setT0 κ r = withT0 r (deadline (κ .time) (delay κ (r .sync)))
 
 -- frames are sent for a run, which becomes r, and t0 is set
-unfoldable pub sending : Timing → Peer → Run → Frames → ℕ → ℕ → Step
-sending τ p r fs afresh time = record { peer = withRun p (setT0 τ r time); event = event.None; frames = fs; afresh = afresh; refused = false }
+unfoldable pub sending : Clock → Peer → Run → Frames → ℕ → Step
+sending κ p r fs afresh = record { peer = withRun p (setT0 κ r); event = event.None; frames = fs; afresh = afresh; refused = false }
 
 -- a frame is answered, or not, and the record is p
 unfoldable pub answering : Peer → Frames → Step
@@ -331,10 +323,10 @@ unfoldable pub endingLink : Peer → Step
 endingLink p = record { peer = settled (withLink p noLink); event = event.Ended; frames = None; afresh = 0; refused = false }
 
 -- "Repeat": if Sync is above 5, give up; else Sync + 1, send, set t0. The run that goes on is r: the record's, with the Sc or the token that it then has.
-unfoldable pub retransmitting : Timing → Peer → Run → Frames → ℕ → Step
-retransmitting τ p r fs time =
-    if p .run .sync above τ .limit then abandoning p
-    else sending τ p (withSync r (p .run .sync + 1)) fs 0 time
+unfoldable pub retransmitting : Clock → Peer → Run → Frames → Step
+retransmitting κ p r fs =
+    if p .run .sync above κ .limit then abandoning p
+    else sending κ p (withSync r (p .run .sync + 1)) fs 0
 
 -- "Drop": send nothing; "a dropped frame changes nothing in the table" (request b).
 unfoldable pub dropping : Peer → Step
@@ -348,9 +340,9 @@ supersede l =
 
 -- "Form": take the frame's group, store the peer commit, Sync 0, Sc 1, no rejected groups, Confirmed, set t0; if a link is there, its mark becomes 1.
 -- The run keeps its token; the record is the address's.
-unfoldable pub formedRun : Timing → Run → ℕ → List ℕ → List ℕ → ℕ → Run
-formedRun τ r group own theirs time =
-    setT0 τ (record {
+unfoldable pub formedRun : Clock → Run → ℕ → List ℕ → List ℕ → Run
+formedRun κ r group own theirs =
+    setT0 κ (record {
       state = 2;
       sync = 0;
       rejected = 0;
@@ -361,12 +353,12 @@ formedRun τ r group own theirs time =
       own = own;
       peer = theirs;
       token = r .token;
-    }) time
+    })
 
-unfoldable pub forming : Timing → Peer → List ℕ → ℕ → List ℕ → List ℕ → Frames → ℕ → ℕ → Step
-forming τ p address group own theirs fs afresh time =
+unfoldable pub forming : Clock → Peer → List ℕ → ℕ → List ℕ → List ℕ → Frames → ℕ → Step
+forming κ p address group own theirs fs afresh =
     record {
-      peer = record { used = 1; address = address; run = formedRun τ (p .run) group own theirs time; link = supersede (p .link) };
+      peer = record { used = 1; address = address; run = formedRun κ (p .run) group own theirs; link = supersede (p .link) };
       event = event.None;
       frames = fs;
       afresh = afresh;
@@ -392,10 +384,10 @@ startedRun group own =
     }
 
 -- a link in the record stays as it is, its mark too
-unfoldable pub starting : Timing → Peer → List ℕ → ℕ → List ℕ → ℕ → Step
-starting τ p address group own time =
+unfoldable pub starting : Clock → Peer → List ℕ → ℕ → List ℕ → Step
+starting κ p address group own =
     record {
-      peer = record { used = 1; address = address; run = setT0 τ (startedRun group own) time; link = p .link };
+      peer = record { used = 1; address = address; run = setT0 κ (startedRun group own); link = p .link };
       event = event.None;
       frames = One (commitFrame group);
       afresh = group;
@@ -403,14 +395,14 @@ starting τ p address group own time =
     }
 
 -- "mark it rejected and take the first group in its own list that is not marked as rejected, with a fresh commit (Sync and token stay, send, set t0); none, give up"
-unfoldable pub switchingTo : Timing → Peer → ℕ → Choice → List ℕ → ℕ → Step
-switchingTo τ p rejected (choice.Group i g) fresh time = sending τ p (switched (p .run) rejected g (freshAt fresh i)) (One (commitFrame g)) g time
-switchingTo τ p rejected choice.None fresh time = abandoning p
+unfoldable pub switchingTo : Clock → Peer → ℕ → Choice → List ℕ → Step
+switchingTo κ p rejected (choice.Group i g) fresh = sending κ p (switched (p .run) rejected g (freshAt fresh i)) (One (commitFrame g)) g
+switchingTo κ p rejected choice.None fresh = abandoning p
 
-unfoldable pub switching : Timing → Peer → List ℕ → List ℕ → ℕ → Step
-switching τ p groups fresh time =
+unfoldable pub switching : Clock → Peer → List ℕ → List ℕ → Step
+switching κ p groups fresh =
     let rejected = mark (p .run .rejected) (indexOf groups (p .run .group)) in
-    switchingTo τ p rejected (firstLeft groups 0 rejected) fresh time
+    switchingTo κ p rejected (firstLeft groups 0 rejected) fresh
 
 -- "the run becomes the link: Rc its counter, Sync carried over, mark 0, t1 = now + 86,400,000, any earlier link replaced"
 unfoldable pub linkOfRun : Run → ℕ → ℕ → Link
@@ -445,31 +437,31 @@ abbrev pub nextConfirm : Peer → Frame
 nextConfirm p = confirmFrame (p .run .sc + 1)
 
 -- "fresh commit, Form, send Commit and Confirm": `own` is the fresh commit
-unfoldable pub answeringCommit : Timing → Peer → List ℕ → Message → List ℕ → ℕ → Step
-answeringCommit τ p address m own time =
-    forming τ p address (m .group) own (m .commit) (Two (commitFrame (m .group)) (confirmFrame 1)) (m .group) time
+unfoldable pub answeringCommit : Clock → Peer → List ℕ → Message → List ℕ → Step
+answeringCommit κ p address m own =
+    forming κ p address (m .group) own (m .commit) (Two (commitFrame (m .group)) (confirmFrame 1)) (m .group)
 
 -- "Form, send Confirm"
-unfoldable pub confirmingCommit : Timing → Peer → List ℕ → Message → ℕ → Step
-confirmingCommit τ p address m time = forming τ p address (m .group) (p .run .own) (m .commit) (One (confirmFrame 1)) 0 time
+unfoldable pub confirmingCommit : Clock → Peer → List ℕ → Message → Step
+confirmingCommit κ p address m = forming κ p address (m .group) (p .run .own) (m .commit) (One (confirmFrame 1)) 0
 
 -- "Repeat the Commit", "Repeat sending 77", "Repeat with Sc + 1 and a new Confirm"
-unfoldable pub repeatingCommit : Timing → Peer → ℕ → Step
-repeatingCommit τ p time = retransmitting τ p (p .run) (One (itsCommit p)) time
+unfoldable pub repeatingCommit : Clock → Peer → Step
+repeatingCommit κ p = retransmitting κ p (p .run) (One (itsCommit p))
 
-unfoldable pub repeatingRefusal : Timing → Peer → ℕ → ℕ → Step
-repeatingRefusal τ p group time = retransmitting τ p (p .run) (One (groupRefusalFrame group)) time
+unfoldable pub repeatingRefusal : Clock → Peer → ℕ → Step
+repeatingRefusal κ p group = retransmitting κ p (p .run) (One (groupRefusalFrame group))
 
-unfoldable pub confirmingAgain : Timing → Peer → ℕ → Step
-confirmingAgain τ p time = retransmitting τ p (withSc (p .run) (p .run .sc + 1)) (One (nextConfirm p)) time
+unfoldable pub confirmingAgain : Clock → Peer → Step
+confirmingAgain κ p = retransmitting κ p (withSc (p .run) (p .run .sc + 1)) (One (nextConfirm p))
 
 -- "store the token, send Commit with it"; "A Commit sent again for a 76 is now a Repeat: it gives up above the limit and raises Sync." (request j)
-unfoldable pub replyingToken : Timing → Peer → Message → ℕ → Step
-replyingToken τ p m time = retransmitting τ p (withToken (p .run) (m .toklen) (m .token)) (One (itsCommit p)) time
+unfoldable pub replyingToken : Clock → Peer → Message → Step
+replyingToken κ p m = retransmitting κ p (withToken (p .run) (m .toklen) (m .token)) (One (itsCommit p))
 
 -- "Sync + 1, Sc + 1, send Commit and Confirm, set t0; the stored peer commit stays"
-unfoldable pub resendingBoth : Timing → Peer → ℕ → Step
-resendingBoth τ p time = sending τ p (withSync (withSc (p .run) (p .run .sc + 1)) (p .run .sync + 1)) (Two (itsCommit p) (nextConfirm p)) 0 time
+unfoldable pub resendingBoth : Clock → Peer → Step
+resendingBoth κ p = sending κ p (withSync (withSc (p .run) (p .run .sc + 1)) (p .run .sync + 1)) (Two (itsCommit p) (nextConfirm p)) 0
 
 -- "Rc is the counter", which is 65,535
 unfoldable pub hearingLast : Peer → ℕ → Step
@@ -486,20 +478,20 @@ perform t c p m Drop = dropping p  -- "Drop": send nothing, change nothing
 perform t c p m RefuseGroup = answering p (One (groupRefusalFrame (m .group)))  -- "send 77 with it"
 perform t c p m AskToken = answering p (One (tokenRequestFrame (m .group)))  -- "send 76 with group and expected token"
 perform t c p m NoSlot = refusing p  -- "no slot, refuse"
-perform t c p m AnswerCommit = answeringCommit (t .timing) p (c .address) m (ourFresh t c m) (c .time)  -- "fresh commit, Form, send Commit and Confirm"
-perform t c p m ConfirmCommit = confirmingCommit (t .timing) p (c .address) m (c .time)  -- "Form, send Confirm"
-perform t c p m ReplyToken = replyingToken (t .timing) p m (c .time)  -- "store the token, send Commit with it", a Repeat (request j)
-perform t c p m SwitchGroup = switching (t .timing) p (t .groups) (c .fresh) (c .time)  -- "mark it rejected and take the first group …; none, give up"
-perform t c p m RepeatCommit = repeatingCommit (t .timing) p (c .time)  -- "Repeat the Commit"
-perform t c p m RepeatRefusal = repeatingRefusal (t .timing) p (m .group) (c .time)  -- "Repeat sending 77"
-perform t c p m ResendBoth = resendingBoth (t .timing) p (c .time)  -- "Sync + 1, Sc + 1, send Commit and Confirm, set t0"
-perform t c p m ConfirmAgain = confirmingAgain (t .timing) p (c .time)  -- "Repeat with Sc + 1 and a new Confirm"
+perform t c p m AnswerCommit = answeringCommit (c .clock) p (c .address) m (ourFresh t c m)  -- "fresh commit, Form, send Commit and Confirm"
+perform t c p m ConfirmCommit = confirmingCommit (c .clock) p (c .address) m  -- "Form, send Confirm"
+perform t c p m ReplyToken = replyingToken (c .clock) p m  -- "store the token, send Commit with it", a Repeat (request j)
+perform t c p m SwitchGroup = switching (c .clock) p (t .groups) (c .fresh)  -- "mark it rejected and take the first group …; none, give up"
+perform t c p m RepeatCommit = repeatingCommit (c .clock) p  -- "Repeat the Commit"
+perform t c p m RepeatRefusal = repeatingRefusal (c .clock) p (m .group)  -- "Repeat sending 77"
+perform t c p m ResendBoth = resendingBoth (c .clock) p  -- "Sync + 1, Sc + 1, send Commit and Confirm, set t0"
+perform t c p m ConfirmAgain = confirmingAgain (c .clock) p  -- "Repeat with Sc + 1 and a new Confirm"
 perform t c p m GiveUp = abandoning p  -- "Give up": the run ends
-perform t c p m Accept = accepting p (m .counter) (c .time)  -- "the run becomes the link"
+perform t c p m Accept = accepting p (m .counter) (c .clock .time)  -- "the run becomes the link"
 perform t c p m HearAgain = hearingAgain p (m .counter)  -- "Rc is the counter, Sync + 1 and a Confirm with counter 65,535"
 perform t c p m HearLast = hearingLast p (m .counter)  -- "Rc is the counter", 65,535
 perform t c p m EndLink = endingLink p  -- "link ends"
-perform t c p m Begin = starting (t .timing) p (c .address) (getD (t .groups) 0 0) (freshAt (c .fresh) 0) (c .time)  -- "Committed, first group, fresh commit, …"
+perform t c p m Begin = starting (c .clock) p (c .address) (getD (t .groups) 0 0) (freshAt (c .fresh) 0)  -- "Committed, first group, fresh commit, …"
 
 -- ==== 4. The rules ================================================================================================================================
 
@@ -507,7 +499,7 @@ unfoldable pub onFrame : Terms → Call → Peer → Message → Step
 onFrame t c p m = perform t c p m (frameAct t c p m)
 
 unfoldable pub onClock : Terms → Call → Peer → Step
-onClock t c p = perform t c p silence (clockAct p (c .time))
+onClock t c p = perform t c p silence (clockAct p (c .clock .time))
 
 unfoldable pub onStart : Terms → Call → Peer → Step
 onStart t c p = perform t c p silence (startAct t)

@@ -1,28 +1,35 @@
 -- What the code hands to a ladder and to an act, as the book sees it; and what it asks of that.
 use mathlib.Core.Path.{_≡_}
 use mathlib.Core.List.{List}
-use Prim.Native.Nat.{ℕ, _*_, _≤_}
+use Prim.Native.Nat.{ℕ, _+_, _*_, _^_, _≤_, _<_}
 use lib.ListN.{length}
 use Rattle.groups.specs.Groups.{width}
 use Rattle.record.specs.declared.Peer.{Peer}
 use Rattle.record.specs.Layout.{decodePeer, recordSize}
 use Rattle.rules.specs.Message.{Message}
+use Rattle.rules.specs.declared.Clock.{Clock}
 use Rattle.rules.specs.declared.Given.{Given}
 use Rattle.rules.specs.declared.Act.{Act}
 use Rattle.rules.specs.declared.Act.the-variants.{ResendBoth, HearAgain}
-use Rattle.rules.specs.Book.{Terms, Call, factory}
+use Rattle.rules.specs.Book.{Terms, Call}
 
 abbrev pub terms : Given → List ℕ → Terms
-terms g groups = record { own = g .own; groups = groups; timing = factory; crowded = g .crowded; full = g .full }
+terms g groups = record { own = g .own; groups = groups; crowded = g .crowded; full = g .full }
 
 abbrev pub call : Given → List ℕ → Call
-call g fresh = record { address = g .address; time = g .time; fresh = fresh; expected = g .expected; verified = g .verified }
+call g fresh = record { address = g .address; clock = g .clock; fresh = fresh; expected = g .expected; verified = g .verified }
+
+-- a clock whose longest delay, one doubling past the Sync limit, fits its 32 bits
+pub record Paced (κ : Clock) : Type 0 where
+  pub few : κ .limit ≤ 30
+  pub fits : κ .period * 2 ^ (κ .limit + 1) < 2 ^ 32
 
 -- a record's octets, and a run in them whose Sync and Sc are in their range
-pub record Whole (s : List ℕ) : Type 0 where
+pub record Whole (κ : Clock) (s : List ℕ) : Type 0 where
+  pub paced : Paced κ
   pub size : length s ≡ recordSize width
-  pub sync : decodePeer width s .run .sync ≤ 6
-  pub sc : decodePeer width s .run .sc ≤ 7
+  pub sync : decodePeer width s .run .sync ≤ κ .limit + 1
+  pub sc : decodePeer width s .run .sc ≤ κ .limit + 2
 
 -- a fresh commit for each of some groups, few enough for their marks
 pub record Stocked (groups fresh : List ℕ) : Type 0 where
@@ -31,12 +38,12 @@ pub record Stocked (groups fresh : List ℕ) : Type 0 where
   pub each : length fresh ≡ width * length groups
 
 -- what a rule asks for
-pub record Ready (s groups fresh : List ℕ) (m : Message) : Type 0 where
-  pub record-is : Whole s
+pub record Ready (κ : Clock) (s groups fresh : List ℕ) (m : Message) : Type 0 where
+  pub record-is : Whole κ s
   pub stock : Stocked groups fresh
   pub token : m .toklen ≤ 256
 
 -- what two acts ask of the record beside: their ladders have tested it
-pub record Able (a : Act) (p : Peer) : Type 0 where
-  pub resend : a ≡ ResendBoth → p .run .sync ≤ 5
-  pub hear : a ≡ HearAgain → p .link .sync ≤ 5
+pub record Able (κ : Clock) (a : Act) (p : Peer) : Type 0 where
+  pub resend : a ≡ ResendBoth → p .run .sync ≤ κ .limit
+  pub hear : a ≡ HearAgain → p .link .sync ≤ κ .limit

@@ -1,12 +1,19 @@
 // What the rules speak of, as types: what a call gives, the acts by name, and what is said. The rules themselves are definitions (specs/Book).
+// The clock's reading, and with it what a table says of times: the first period, and the Sync limit.
+pub struct Clock {
+    pub time: u32,
+    pub period: u16,
+    pub limit: u8,
+}
+
 // What a call gives a rule beside the groups and the fresh commits. Of the table: our own address, whether Open is at or above the threshold, whether
-// the peer has no record and no slot is free for one. Of the call: the peer's address, the clock's reading, the expected token and the verdict.
+// the peer has no record and no slot is free for one. Of the call: the peer's address, the clock, the expected token and the verdict.
 pub struct Given {
     pub own: [u8; 6],
     pub crowded: bool,
     pub full: bool,
     pub address: [u8; 6],
-    pub time: u32,
+    pub clock: Clock,
     pub expected: [u8; 32],
     pub verified: bool,
 }

@@ -124,7 +124,7 @@ replied x t l r answer given e q w = record { returns = q ∙ ap (λ (y : Answer
 -- ---- the settings
 
 pub settings-are : (s : List ℕ) (n g h k : ℕ) → n ≡ num (part s 0 1) → g ≡ num (part s 2 2) → h ≡ num (part s 4 2) → k ≡ num (part s 8 2)
-    → record { count = n; groups = g ∷ h ∷ []; threshold = k } ≡ settingsOf s
+    → record { count = n; groups = g ∷ h ∷ 0 ∷ []; threshold = k; period = 0; limit = 0 } ≡ settingsOf s
 unfolding settingsOf
 settings-are s n g h k en eg eh ek = rw (en, eg, eh, ek)
 

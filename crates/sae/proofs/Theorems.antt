@@ -15,7 +15,7 @@ use Rattle.record.specs.SettingsOctets.{settingsOf, reservedZero}
 use Rattle.rules.specs.Book.{_is_, Step}
 use Rattle.message.specs.View.{view}
 use Rattle.table.specs.Table.{decodeTable, sound}
-use Rattle.table.specs.Initial.{initialOk, initial}
+use Rattle.table.specs.Initial.{slotsFor, initialOk, initialTable}
 use Rattle.answers.specs.declared.Answer.{Answer}
 use Rattle.answers.specs.declared.Outcome.{Outcome}
 use Rattle.answers.specs.declared.Outcome.the-variants as outcome
@@ -23,7 +23,7 @@ use Rattle.answers.specs.declared.Refusal.{Refusal}
 use Rattle.answers.specs.declared.Refusal.the-variants as why
 use Rattle.answers.specs.declared.Turn.{Turn}
 use Rattle.answers.specs.declared.Turn.the-variants as turn
-use Rattle.answers.specs.Answers.{Left, returned, refused, refuse, said, quiet, seating, finishAt, finishes, turned}
+use Rattle.answers.specs.Answers.{Left, ends, returned, refused, noneDue, refuse, said, quiet, seating, finishAt, finishes, turned}
 use Rattle.calls.specs.Calls.{initializes, initializesFrom, initiates, kills, receives, dueSlot, expiresBy, expires}
 use Rattle.writer.specs.declared.Wrote.{Wrote}
 use Rattle.writer.specs.declared.Wrote.the-variants as wrote
@@ -43,13 +43,13 @@ unchanged : (t : List ℕ) (a : Answer) → Refuses t (record { answer = a; tabl
 unchanged t a = record { leaves = λ c e. refl }
 
 finish-refuses : (t a : List ℕ) (f : Found) (s : Step) → Refuses t (finishes t f s a)
-unfolding finishes finishAt said
+unfolding finishes finishAt ends said
 finish-refuses t a f s = go (s .refused) (seating (decodeTable t) f)
   where
     go : (b : Bool) (x : Found) → Refuses t (if b then refuse t why.Full else finishAt x t s a)
     go true x = unchanged t _
     go false (found.At k) = record { leaves = λ c e. let z : _≡_ {A = ℕ} 0 1 = cc in absurd (omega arith) }
-    go false found.Nothing = unchanged t _
+    go false found.Nothing = record { leaves = λ c e. let z : _≡_ {A = ℕ} 0 1 = cc in absurd (omega arith) }
 
 turned-refuses : (w : Turn) (g : Found → Step) (t a : List ℕ) → Refuses t (turned w g t a)
 unfolding turned
@@ -57,10 +57,10 @@ turned-refuses (turn.Refused c) g t a = unchanged t _
 turned-refuses (turn.Go f) g t a = finish-refuses t a f (g f)
 
 pub initialize-refuses : (t own s : List ℕ) → Refuses t (initializesFrom t own s)
-unfolding initializesFrom initializes quiet
+unfolding initializesFrom initializes ends quiet
 initialize-refuses t own s = go (reservedZero s) (initialOk (settingsOf s) own (length t))
   where
-    go : (a b : Bool) → Refuses t (if a then (if b then record { answer = quiet own; table = initial (settingsOf s) own t } else record { answer = refused why.Settings; table = t }) else record { answer = refused why.Settings; table = t })
+    go : (a b : Bool) → Refuses t (if a then (if b then ends (quiet own) (initialTable (settingsOf s) own (slotsFor (length t))) else record { answer = refused why.Settings; table = t }) else record { answer = refused why.Settings; table = t })
     go true true = record { leaves = λ c e. let z : _≡_ {A = ℕ} 0 1 = cc in absurd (omega arith) }
     go true false = unchanged t _
     go false b = unchanged t _
@@ -78,8 +78,8 @@ unfolding receives
 receive-refuses t a time frame fresh expected verdict = turned-refuses _ _ t a
 
 due-refuses : (t : List ℕ) (time : ℕ) (f : Found) → Refuses t (expiresBy f t time)
-unfolding expiresBy
-due-refuses t time found.Nothing = unchanged t _
+unfolding expiresBy ends noneDue
+due-refuses t time found.Nothing = record { leaves = λ c e. let z : _≡_ {A = ℕ} 0 1 = cc in absurd (omega arith) }
 due-refuses t time (found.At k) = finish-refuses t _ (found.At k) _
 
 pub expire-refuses : (t : List ℕ) (time : ℕ) → Refuses t (expires t time)

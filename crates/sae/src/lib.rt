@@ -137,8 +137,10 @@ fn settings_of(s: [u8; 16]) -> Settings
     let threshold = octets::get16(&s[..], 8);
     Settings {
         count: count,
-        groups: [first, second],
+        groups: [first, second, 0],
         threshold: threshold,
+        period: 0,
+        limit: 0,
     }
 }
 
@@ -360,8 +362,8 @@ pub extern "C" fn sae_read(t: &[u8], body: &[u8], parts: &mut [u8; 20]) -> u32
         return 2;
     }
     let h = c.header;
-    let list = h.groups;
-    let n = h.count as usize;
+    let list = h.settings.groups;
+    let n = h.settings.count as usize;
     let v = message::read(&list[..n], body);
     if v.sequence == 0 {
         return 7;

@@ -10,7 +10,7 @@ use lib.Dec.{eqb, leb, ltb}
 use lib.ListN.{length, take, drop}
 use lib.Seq.{length-take-le}
 use borrow.Author.Tests.{eq-eqb, ne-eqb, eqb-true, le-leb, leb-true, lt-ltb, ltb-true, not-true}
-use Rattle.octets.specs.Octets.{allZero, zeroAddress}
+use Rattle.octets.specs.Octets.{allZero}
 use Rattle.octets.proofs.Scan.{clash, and-left, and-right, and-both}
 use Rattle.octets.proofs.Tests.{zero-is, zero-zeros}
 use Rattle.groups.specs.Groups.{width, known, listed, marked, indexOf}
@@ -18,9 +18,12 @@ use Rattle.record.specs.Layout.{encodeRun, decodeRun, encodeLink, decodeLink, e
 use Rattle.record.specs.declared.Run.{Run}
 use Rattle.record.specs.declared.Link.{Link}
 use Rattle.record.specs.declared.Peer.{Peer}
+use Rattle.record.specs.declared.Geometry.{Geometry}
+use Rattle.record.specs.declared.Counts.{Counts}
+use Rattle.record.specs.declared.Settings.{Settings}
 use Rattle.record.specs.declared.Header.{Header}
 use Rattle.record.proofs.Laws.{ShapeRun, ShapeLink, ShapePeer, length-run, length-link, length-peer, dec-enc-run, dec-enc-link, dec-enc-peer, zero-run, zero-link, zero-peer, fit-no-run, fit-no-link, fit-no-peer, shape-peer}
-use Rattle.soundness.specs.Soundness.{ownOk, usable, allKnown, eachOnce, groupsOk, headerOk, highSync, commitOk, tokenOk, rejectedOk, committedOk, confirmedOk, runOk, finishedOk, linkOk, freeOk, inUseOk, peerOk}
+use Rattle.soundness.specs.Soundness.{ownOk, usable, allKnown, eachOnce, groupsOk, settingsOk, geometryOk, headerOk, commitOk, tokenOk, rejectedOk, committedOk, confirmedOk, runOk, finishedOk, linkOk, freeOk, inUseOk, peerOk}
 
 -- ---- unused parts
 
@@ -37,30 +40,30 @@ zeros-peer p f z =
     sym (dec-enc-peer width p f) ∙ ap (decodePeer width) (zero-is (encodePeer p) (recordSize width) (length-peer width p f) z ∙ sym zero-peer) ∙ dec-enc-peer width noPeer (shape-peer fit-no-peer)
 
 -- no run, no link, a free slot have the form
-pub no-run-ok : (gs : List ℕ) → runOk gs noRun ≡ true
+pub no-run-ok : (gs : List ℕ) (high : ℕ) → runOk gs high noRun ≡ true
 unfolding runOk noRun
-no-run-ok gs = ap allZero zero-run ∙ zero-zeros (runSize width)
+no-run-ok gs high = ap allZero zero-run ∙ zero-zeros (runSize width)
 
-pub no-link-ok : (gs : List ℕ) → linkOk gs noLink ≡ true
+pub no-link-ok : (gs : List ℕ) (high : ℕ) → linkOk gs high noLink ≡ true
 unfolding linkOk noLink
-no-link-ok gs = ap allZero zero-link ∙ zero-zeros (linkSize width)
+no-link-ok gs high = ap allZero zero-link ∙ zero-zeros (linkSize width)
 
-pub no-peer-ok : (own gs : List ℕ) → peerOk own gs noPeer ≡ true
+pub no-peer-ok : (own gs : List ℕ) (high : ℕ) → peerOk own gs high noPeer ≡ true
 unfolding peerOk noPeer freeOk
-no-peer-ok own gs = ap allZero zero-peer ∙ zero-zeros (recordSize width)
+no-peer-ok own gs high = ap allZero zero-peer ∙ zero-zeros (recordSize width)
 
 -- and nothing else is unused
-pub run-unused : (gs : List ℕ) (r : Run) → ShapeRun width r → runOk gs r ≡ true → r .state ≡ 0 → r ≡ noRun
+pub run-unused : (gs : List ℕ) (high : ℕ) (r : Run) → ShapeRun width r → runOk gs high r ≡ true → r .state ≡ 0 → r ≡ noRun
 unfolding runOk
-run-unused gs r f ok e = zeros-run r f (rw (eq-eqb (r .state) 0 e) at ok)
+run-unused gs high r f ok e = zeros-run r f (rw (eq-eqb (r .state) 0 e) at ok)
 
-pub link-unused : (gs : List ℕ) (l : Link) → ShapeLink width l → linkOk gs l ≡ true → l .finished ≡ 0 → l ≡ noLink
+pub link-unused : (gs : List ℕ) (high : ℕ) (l : Link) → ShapeLink width l → linkOk gs high l ≡ true → l .finished ≡ 0 → l ≡ noLink
 unfolding linkOk
-link-unused gs l f ok e = zeros-link l f (rw (eq-eqb (l .finished) 0 e) at ok)
+link-unused gs high l f ok e = zeros-link l f (rw (eq-eqb (l .finished) 0 e) at ok)
 
-pub peer-unused : (own gs : List ℕ) (p : Peer) → ShapePeer width p → peerOk own gs p ≡ true → p .used ≡ 0 → p ≡ noPeer
+pub peer-unused : (own gs : List ℕ) (high : ℕ) (p : Peer) → ShapePeer width p → peerOk own gs high p ≡ true → p .used ≡ 0 → p ≡ noPeer
 unfolding peerOk freeOk
-peer-unused own gs p f ok e = zeros-peer p f (rw (eq-eqb (p .used) 0 e) at ok)
+peer-unused own gs high p f ok e = zeros-peer p f (rw (eq-eqb (p .used) 0 e) at ok)
 
 -- ---- the run
 
@@ -68,8 +71,8 @@ pub record Token (r : Run) : Type 0 where
   pub short : r .toklen ≤ 256
   pub rest : allZero (drop (r .toklen) (r .token)) ≡ true
 
-pub record Committed (gs : List ℕ) (r : Run) : Type 0 where
-  pub sync : r .sync ≤ highSync
+pub record Committed (gs : List ℕ) (high : ℕ) (r : Run) : Type 0 where
+  pub sync : r .sync ≤ high
   pub below : r .rejected < 2 ^ length gs
   pub clear : marked (r .rejected) (indexOf gs (r .group)) ≡ false
   pub sc : r .sc ≡ 0
@@ -78,8 +81,8 @@ pub record Committed (gs : List ℕ) (r : Run) : Type 0 where
   pub own : commitOk (r .group) (r .own) ≡ true
   pub peer : allZero (r .peer) ≡ true
 
-pub record Confirmed (gs : List ℕ) (r : Run) : Type 0 where
-  pub sync : r .sync ≤ highSync
+pub record Confirmed (gs : List ℕ) (high : ℕ) (r : Run) : Type 0 where
+  pub sync : r .sync ≤ high
   pub rejected : r .rejected ≡ 0
   pub sc : r .sc ≡ r .sync + 1
   pub listed : listed gs (r .group) ≡ true
@@ -98,10 +101,10 @@ form-token : (r : Run) → Token r → tokenOk r ≡ true
 unfolding tokenOk
 form-token r f = and-both _ _ (le-leb _ _ (f .short)) (f .rest)
 
-pub committed-form : (gs : List ℕ) (r : Run) → committedOk gs r ≡ true → Committed gs r
+pub committed-form : (gs : List ℕ) (high : ℕ) (r : Run) → committedOk gs high r ≡ true → Committed gs high r
 unfolding committedOk rejectedOk
-committed-form gs r ok =
-    let k₁ = and-right (leb (r .sync) highSync) _ ok in
+committed-form gs high r ok =
+    let k₁ = and-right (leb (r .sync) high) _ ok in
     let j = and-left _ _ k₁ in
     let k₂ = and-right (rejectedOk gs r) _ k₁ in
     let k₃ = and-right (eqb (r .sc) 0) _ k₂ in
@@ -118,16 +121,16 @@ committed-form gs r ok =
       peer = and-right (commitOk (r .group) (r .own)) _ k₅;
     }
 
-pub form-committed : (gs : List ℕ) (r : Run) → Committed gs r → committedOk gs r ≡ true
+pub form-committed : (gs : List ℕ) (high : ℕ) (r : Run) → Committed gs high r → committedOk gs high r ≡ true
 unfolding committedOk rejectedOk
-form-committed gs r f =
+form-committed gs high r f =
     and-both _ _ (le-leb _ _ (f .sync)) (and-both _ _ (and-both _ _ (lt-ltb _ _ (f .below)) (is-not _ (f .clear)))
     (and-both _ _ (eq-eqb _ _ (f .sc)) (and-both _ _ (f .listed) (and-both _ _ (form-token r (f .token)) (and-both _ _ (f .own) (f .peer))))))
 
-pub confirmed-form : (gs : List ℕ) (r : Run) → confirmedOk gs r ≡ true → Confirmed gs r
+pub confirmed-form : (gs : List ℕ) (high : ℕ) (r : Run) → confirmedOk gs high r ≡ true → Confirmed gs high r
 unfolding confirmedOk
-confirmed-form gs r ok =
-    let k₁ = and-right (leb (r .sync) highSync) _ ok in
+confirmed-form gs high r ok =
+    let k₁ = and-right (leb (r .sync) high) _ ok in
     let k₂ = and-right (eqb (r .rejected) 0) _ k₁ in
     let k₃ = and-right (eqb (r .sc) (r .sync + 1)) _ k₂ in
     let k₄ = and-right (listed gs (r .group)) _ k₃ in
@@ -142,33 +145,33 @@ confirmed-form gs r ok =
       peer = and-right (commitOk (r .group) (r .own)) _ k₅;
     }
 
-pub form-confirmed : (gs : List ℕ) (r : Run) → Confirmed gs r → confirmedOk gs r ≡ true
+pub form-confirmed : (gs : List ℕ) (high : ℕ) (r : Run) → Confirmed gs high r → confirmedOk gs high r ≡ true
 unfolding confirmedOk
-form-confirmed gs r f =
+form-confirmed gs high r f =
     and-both _ _ (le-leb _ _ (f .sync)) (and-both _ _ (eq-eqb _ _ (f .rejected)) (and-both _ _ (eq-eqb _ _ (f .sc))
     (and-both _ _ (f .listed) (and-both _ _ (form-token r (f .token)) (and-both _ _ (f .own) (f .peer))))))
 
 -- the run by its state
-pub run-is-committed : (gs : List ℕ) (r : Run) → r .state ≡ 1 → runOk gs r ≡ true → Committed gs r
+pub run-is-committed : (gs : List ℕ) (high : ℕ) (r : Run) → r .state ≡ 1 → runOk gs high r ≡ true → Committed gs high r
 unfolding runOk
-run-is-committed gs r e ok = committed-form gs r (rw (ne-eqb (r .state) 0 (λ z. omega arith), eq-eqb (r .state) 1 e) at ok)
+run-is-committed gs high r e ok = committed-form gs high r (rw (ne-eqb (r .state) 0 (λ z. omega arith), eq-eqb (r .state) 1 e) at ok)
 
-pub committed-is-run : (gs : List ℕ) (r : Run) → r .state ≡ 1 → Committed gs r → runOk gs r ≡ true
+pub committed-is-run : (gs : List ℕ) (high : ℕ) (r : Run) → r .state ≡ 1 → Committed gs high r → runOk gs high r ≡ true
 unfolding runOk
-committed-is-run gs r e f = rw (ne-eqb (r .state) 0 (λ z. omega arith), eq-eqb (r .state) 1 e) (form-committed gs r f)
+committed-is-run gs high r e f = rw (ne-eqb (r .state) 0 (λ z. omega arith), eq-eqb (r .state) 1 e) (form-committed gs high r f)
 
-pub run-is-confirmed : (gs : List ℕ) (r : Run) → r .state ≡ 2 → runOk gs r ≡ true → Confirmed gs r
+pub run-is-confirmed : (gs : List ℕ) (high : ℕ) (r : Run) → r .state ≡ 2 → runOk gs high r ≡ true → Confirmed gs high r
 unfolding runOk
-run-is-confirmed gs r e ok = confirmed-form gs r (rw (ne-eqb (r .state) 0 (λ z. omega arith), ne-eqb (r .state) 1 (λ z. omega arith), eq-eqb (r .state) 2 e) at ok)
+run-is-confirmed gs high r e ok = confirmed-form gs high r (rw (ne-eqb (r .state) 0 (λ z. omega arith), ne-eqb (r .state) 1 (λ z. omega arith), eq-eqb (r .state) 2 e) at ok)
 
-pub confirmed-is-run : (gs : List ℕ) (r : Run) → r .state ≡ 2 → Confirmed gs r → runOk gs r ≡ true
+pub confirmed-is-run : (gs : List ℕ) (high : ℕ) (r : Run) → r .state ≡ 2 → Confirmed gs high r → runOk gs high r ≡ true
 unfolding runOk
-confirmed-is-run gs r e f = rw (ne-eqb (r .state) 0 (λ z. omega arith), ne-eqb (r .state) 1 (λ z. omega arith), eq-eqb (r .state) 2 e) (form-confirmed gs r f)
+confirmed-is-run gs high r e f = rw (ne-eqb (r .state) 0 (λ z. omega arith), ne-eqb (r .state) 1 (λ z. omega arith), eq-eqb (r .state) 2 e) (form-confirmed gs high r f)
 
 -- no other state
-pub run-states : (gs : List ℕ) (r : Run) → runOk gs r ≡ true → (r .state ≡ 0) ⊎ ((r .state ≡ 1) ⊎ (r .state ≡ 2))
+pub run-states : (gs : List ℕ) (high : ℕ) (r : Run) → runOk gs high r ≡ true → (r .state ≡ 0) ⊎ ((r .state ≡ 1) ⊎ (r .state ≡ 2))
 unfolding runOk
-run-states gs r ok = elim (ℕ-discrete (r .state) 0) [
+run-states gs high r ok = elim (ℕ-discrete (r .state) 0) [
   | yes e ↦ inl e
   | no d ↦ elim (ℕ-discrete (r .state) 1) [
     | yes e ↦ inr (inl e)
@@ -181,21 +184,21 @@ run-states gs r ok = elim (ℕ-discrete (r .state) 0) [
 
 -- ---- the link
 
-pub record Finished (gs : List ℕ) (l : Link) : Type 0 where
+pub record Finished (gs : List ℕ) (high : ℕ) (l : Link) : Type 0 where
   pub finished : l .finished ≡ 1
   pub superseded : l .superseded ≤ 1
-  pub sync : l .sync ≤ highSync
+  pub sync : l .sync ≤ high
   pub spare : l .spare ≡ 0
   pub listed : listed gs (l .group) ≡ true
   pub own : commitOk (l .group) (l .own) ≡ true
   pub peer : commitOk (l .group) (l .peer) ≡ true
 
-pub finished-form : (gs : List ℕ) (l : Link) → finishedOk gs l ≡ true → Finished gs l
+pub finished-form : (gs : List ℕ) (high : ℕ) (l : Link) → finishedOk gs high l ≡ true → Finished gs high l
 unfolding finishedOk
-finished-form gs l ok =
+finished-form gs high l ok =
     let k₁ = and-right (eqb (l .finished) 1) _ ok in
     let k₂ = and-right (leb (l .superseded) 1) _ k₁ in
-    let k₃ = and-right (leb (l .sync) highSync) _ k₂ in
+    let k₃ = and-right (leb (l .sync) high) _ k₂ in
     let k₄ = and-right (eqb (l .spare) 0) _ k₃ in
     let k₅ = and-right (listed gs (l .group)) _ k₄ in
     record {
@@ -208,49 +211,49 @@ finished-form gs l ok =
       peer = and-right (commitOk (l .group) (l .own)) _ k₅;
     }
 
-pub form-finished : (gs : List ℕ) (l : Link) → Finished gs l → finishedOk gs l ≡ true
+pub form-finished : (gs : List ℕ) (high : ℕ) (l : Link) → Finished gs high l → finishedOk gs high l ≡ true
 unfolding finishedOk
-form-finished gs l f =
+form-finished gs high l f =
     and-both _ _ (eq-eqb _ _ (f .finished)) (and-both _ _ (le-leb _ _ (f .superseded)) (and-both _ _ (le-leb _ _ (f .sync)) (and-both _ _ (eq-eqb _ _ (f .spare))
     (and-both _ _ (f .listed) (and-both _ _ (f .own) (f .peer))))))
 
-pub link-is-finished : (gs : List ℕ) (l : Link) → (l .finished ≡ 0 → ⊥) → linkOk gs l ≡ true → Finished gs l
+pub link-is-finished : (gs : List ℕ) (high : ℕ) (l : Link) → (l .finished ≡ 0 → ⊥) → linkOk gs high l ≡ true → Finished gs high l
 unfolding linkOk
-link-is-finished gs l d ok = finished-form gs l (rw (ne-eqb (l .finished) 0 d) at ok)
+link-is-finished gs high l d ok = finished-form gs high l (rw (ne-eqb (l .finished) 0 d) at ok)
 
-pub finished-is-link : (gs : List ℕ) (l : Link) → Finished gs l → linkOk gs l ≡ true
+pub finished-is-link : (gs : List ℕ) (high : ℕ) (l : Link) → Finished gs high l → linkOk gs high l ≡ true
 unfolding linkOk
-finished-is-link gs l f = rw (ne-eqb (l .finished) 0 (λ e. omega (arith, f .finished))) (form-finished gs l f)
+finished-is-link gs high l f = rw (ne-eqb (l .finished) 0 (λ e. omega (arith, f .finished))) (form-finished gs high l f)
 
 -- ---- the record in use
 
-pub record InUse (own gs : List ℕ) (p : Peer) : Type 0 where
+pub record InUse (own gs : List ℕ) (high : ℕ) (p : Peer) : Type 0 where
   pub used : p .used ≡ 1
   pub usable : usable own (p .address) ≡ true
-  pub run : runOk gs (p .run) ≡ true
-  pub link : linkOk gs (p .link) ≡ true
+  pub run : runOk gs high (p .run) ≡ true
+  pub link : linkOk gs high (p .link) ≡ true
   pub some : (not (eqb (p .run .state) 0) || not (eqb (p .link .finished) 0)) ≡ true
 
-pub in-use-form : (own gs : List ℕ) (p : Peer) → inUseOk own gs p ≡ true → InUse own gs p
+pub in-use-form : (own gs : List ℕ) (high : ℕ) (p : Peer) → inUseOk own gs high p ≡ true → InUse own gs high p
 unfolding inUseOk
-in-use-form own gs p ok =
+in-use-form own gs high p ok =
     let k₁ = and-right (eqb (p .used) 1) _ ok in
     let k₂ = and-right (usable own (p .address)) _ k₁ in
-    let k₃ = and-right (runOk gs (p .run)) _ k₂ in
-    record { used = eqb-true _ _ (and-left _ _ ok); usable = and-left _ _ k₁; run = and-left _ _ k₂; link = and-left _ _ k₃; some = and-right (linkOk gs (p .link)) _ k₃ }
+    let k₃ = and-right (runOk gs high (p .run)) _ k₂ in
+    record { used = eqb-true _ _ (and-left _ _ ok); usable = and-left _ _ k₁; run = and-left _ _ k₂; link = and-left _ _ k₃; some = and-right (linkOk gs high (p .link)) _ k₃ }
 
-pub form-in-use : (own gs : List ℕ) (p : Peer) → InUse own gs p → inUseOk own gs p ≡ true
+pub form-in-use : (own gs : List ℕ) (high : ℕ) (p : Peer) → InUse own gs high p → inUseOk own gs high p ≡ true
 unfolding inUseOk
-form-in-use own gs p f =
+form-in-use own gs high p f =
     and-both _ _ (eq-eqb _ _ (f .used)) (and-both _ _ (f .usable) (and-both _ _ (f .run) (and-both _ _ (f .link) (f .some))))
 
-pub peer-in-use : (own gs : List ℕ) (p : Peer) → (p .used ≡ 0 → ⊥) → peerOk own gs p ≡ true → InUse own gs p
+pub peer-in-use : (own gs : List ℕ) (high : ℕ) (p : Peer) → (p .used ≡ 0 → ⊥) → peerOk own gs high p ≡ true → InUse own gs high p
 unfolding peerOk
-peer-in-use own gs p d ok = in-use-form own gs p (rw (ne-eqb (p .used) 0 d) at ok)
+peer-in-use own gs high p d ok = in-use-form own gs high p (rw (ne-eqb (p .used) 0 d) at ok)
 
-pub in-use-peer : (own gs : List ℕ) (p : Peer) → InUse own gs p → peerOk own gs p ≡ true
+pub in-use-peer : (own gs : List ℕ) (high : ℕ) (p : Peer) → InUse own gs high p → peerOk own gs high p ≡ true
 unfolding peerOk
-in-use-peer own gs p f = rw (ne-eqb (p .used) 0 (λ e. omega (arith, f .used))) (form-in-use own gs p f)
+in-use-peer own gs high p f = rw (ne-eqb (p .used) 0 (λ e. omega (arith, f .used))) (form-in-use own gs high p f)
 
 -- ---- the groups and the header
 
@@ -270,7 +273,7 @@ groups-form n gs ok =
     record { some = leb-true _ _ (and-left _ _ ok); few = leb-true _ _ (and-left _ _ k₁); known = and-left _ _ k₂; once = and-left _ _ k₃; rest = and-right (eachOnce (take n gs)) _ k₃ }
 
 -- a list of one or two groups
-pub groups-length : (n : ℕ) (gs : List ℕ) → length gs ≡ 2 → groupsOk n gs ≡ true → length (take n gs) ≡ n
+pub groups-length : (n : ℕ) (gs : List ℕ) → length gs ≡ 3 → groupsOk n gs ≡ true → length (take n gs) ≡ n
 groups-length n gs l ok = let f = groups-form n gs ok in length-take-le n gs (omega (arith, f .few))
 
 -- a listed group is a known one
@@ -283,49 +286,54 @@ listed-known (x ∷ gs) g a l = go (eqb x g) refl l (λ m. listed-known gs g (an
     go true e m ih = subst (λ (y : ℕ). known y ≡ true) (eqb-true x g e) (and-left (known x) _ a)
     go false e m ih = ih m
 
+pub record SettingsForm (s : Settings) : Type 0 where
+  pub groups : groupsOk (s .count) (s .groups) ≡ true
+  pub threshold : s .threshold ≤ 64
+  pub period : s .period ≡ 0
+  pub limit : s .limit ≡ 0
+
+pub settings-form : (s : Settings) → settingsOk s ≡ true → SettingsForm s
+unfolding settingsOk
+settings-form s ok =
+    let k₁ = and-right (groupsOk (s .count) (s .groups)) _ ok in
+    let k₂ = and-right (leb (s .threshold) 64) _ k₁ in
+    record { groups = and-left _ _ ok; threshold = leb-true _ _ (and-left _ _ k₁); period = eqb-true _ _ (and-left _ _ k₂); limit = eqb-true _ _ (and-right (eqb (s .period) 0) _ k₂) }
+
+pub record GeometryForm (g : Geometry) : Type 0 where
+  pub some : 1 ≤ g .slots
+  pub few : g .slots ≤ 64
+  pub size : g .size ≡ recordSize width
+  pub first : g .first ≡ 32
+
+pub geometry-form : (g : Geometry) → geometryOk g ≡ true → GeometryForm g
+unfolding geometryOk
+geometry-form g ok =
+    let k₁ = and-right (leb 1 (g .slots)) _ ok in
+    let k₂ = and-right (leb (g .slots) 64) _ k₁ in
+    record { some = leb-true _ _ (and-left _ _ ok); few = leb-true _ _ (and-left _ _ k₁); size = eqb-true _ _ (and-left _ _ k₂); first = eqb-true _ _ (and-right (eqb (g .size) (recordSize width)) _ k₂) }
+
+pub form-geometry : (g : Geometry) → GeometryForm g → geometryOk g ≡ true
+unfolding geometryOk
+form-geometry g f = and-both _ _ (le-leb _ _ (f .some)) (and-both _ _ (le-leb _ _ (f .few)) (and-both _ _ (eq-eqb _ _ (f .size)) (eq-eqb _ _ (f .first))))
+
 pub record HeaderForm (h : Header) : Type 0 where
-  pub some : 1 ≤ h .slots
-  pub few : h .slots ≤ 64
-  pub size : h .size ≡ recordSize width
-  pub first : h .first ≡ 32
-  pub spare : zeroAddress (h .spare) ≡ true
+  pub geometry : GeometryForm (h .geometry)
+  pub spare : h .spare ≡ 0
   pub own : ownOk (h .own) ≡ true
-  pub groups : groupsOk (h .count) (h .groups) ≡ true
-  pub spare1 : h .spare1 ≡ 0
-  pub threshold : h .threshold ≤ 64
-  pub spare2 : h .spare2 ≡ 0
+  pub settings : settingsOk (h .settings) ≡ true
 
 pub header-form : (h : Header) → headerOk h ≡ true → HeaderForm h
 unfolding headerOk
 header-form h ok =
-    let k₁ = and-right (leb 1 (h .slots)) _ ok in
-    let k₂ = and-right (leb (h .slots) 64) _ k₁ in
-    let k₃ = and-right (eqb (h .size) (recordSize width)) _ k₂ in
-    let k₄ = and-right (eqb (h .first) 32) _ k₃ in
-    let k₅ = and-right (zeroAddress (h .spare)) _ k₄ in
-    let k₆ = and-right (ownOk (h .own)) _ k₅ in
-    let k₇ = and-right (groupsOk (h .count) (h .groups)) _ k₆ in
-    let k₈ = and-right (eqb (h .spare1) 0) _ k₇ in
-    record {
-      some = leb-true _ _ (and-left _ _ ok);
-      few = leb-true _ _ (and-left _ _ k₁);
-      size = eqb-true _ _ (and-left _ _ k₂);
-      first = eqb-true _ _ (and-left _ _ k₃);
-      spare = and-left _ _ k₄;
-      own = and-left _ _ k₅;
-      groups = and-left _ _ k₆;
-      spare1 = eqb-true _ _ (and-left _ _ k₇);
-      threshold = leb-true _ _ (and-left _ _ k₈);
-      spare2 = eqb-true _ _ (and-right (leb (h .threshold) 64) _ k₈);
-    }
+    let k₁ = and-right (geometryOk (h .geometry)) _ ok in
+    let k₂ = and-right (eqb (h .spare) 0) _ k₁ in
+    record { geometry = geometry-form _ (and-left _ _ ok); spare = eqb-true _ _ (and-left _ _ k₁); own = and-left _ _ k₂; settings = and-right (ownOk (h .own)) _ k₂ }
 
 pub form-header : (h : Header) → HeaderForm h → headerOk h ≡ true
 unfolding headerOk
-form-header h f =
-    and-both _ _ (le-leb _ _ (f .some)) (and-both _ _ (le-leb _ _ (f .few)) (and-both _ _ (eq-eqb _ _ (f .size)) (and-both _ _ (eq-eqb _ _ (f .first)) (and-both _ _ (f .spare) (and-both _ _ (f .own)
-    (and-both _ _ (f .groups) (and-both _ _ (eq-eqb _ _ (f .spare1)) (and-both _ _ (le-leb _ _ (f .threshold)) (eq-eqb _ _ (f .spare2))))))))))
+form-header h f = and-both _ _ (form-geometry _ (f .geometry)) (and-both _ _ (eq-eqb _ _ (f .spare)) (and-both _ _ (f .own) (f .settings)))
 
 -- the counts are not looked at
-pub header-counted : (h : Header) (used opened : ℕ) → headerOk (counted h used opened) ≡ headerOk h
+pub header-counted : (h : Header) (n : Counts) → headerOk (counted h n) ≡ headerOk h
 unfolding headerOk
-header-counted h used opened = refl
+header-counted h n = refl

@@ -10,10 +10,11 @@ use Rattle.octets.specs.Scan.{bit}
 use Rattle.octets.proofs.Laws.{length-put, part-put-before}
 use Rattle.groups.specs.Groups.{width}
 use Rattle.record.specs.Layout.{decodePeer, decodeHeader, counted}
+use Rattle.record.specs.declared.Counts.{Counts}
 use Rattle.record.specs.declared.Header.{Header}
 use Rattle.record.specs.declared.Peer.{Peer}
 use Rattle.record.proofs.Laws.{header-front}
-use Rattle.table.specs.Table.{Table, size, peersOf, decodeTable, slot, slots, inUse, isOpen, usedCount, openCount, withPeer, recounted, standingOf, Changed, Ready}
+use Rattle.table.specs.Table.{Table, size, peersOf, decodeTable, slot, slots, inUse, isOpen, usedCount, openCount, countsOf, withPeer, recounted, standingOf, Changed, Ready}
 use Rattle.table.proofs.Octets.{put-after, put-front}
 use Rattle.table.proofs.Laws.{slot-same, used-stored, open-stored, peers-held}
 
@@ -59,13 +60,13 @@ changed t u k p g R eg l e =
       whole = l ∙ R .whole ∙ ap (λ (x : ℕ). 32 + size * x) (sym n);
       small = rw n (R .small);
       header = eg ∙ ap (λ (X : Table). X .header) (sym e);
-      used = subst (λ (X : Table). X .header .used + bit (inUse (slot X k)) ≡ usedCount X + bit (inUse (slot (decodeTable t) k))) (sym e)
-          (ap (λ (q : Peer). decodeTable t .header .used + bit (inUse q)) s ∙ ap (λ (x : ℕ). x + bit (inUse p)) (R .used) ∙ used-stored (decodeTable t) k p (R .below) h);
-      opened = subst (λ (X : Table). X .header .opened + bit (isOpen (slot X k)) ≡ openCount X + bit (isOpen (slot (decodeTable t) k))) (sym e)
-          (ap (λ (q : Peer). decodeTable t .header .opened + bit (isOpen q)) s ∙ ap (λ (x : ℕ). x + bit (isOpen p)) (R .opened) ∙ open-stored (decodeTable t) k p (R .below) h);
+      used = subst (λ (X : Table). X .header .counts .used + bit (inUse (slot X k)) ≡ usedCount X + bit (inUse (slot (decodeTable t) k))) (sym e)
+          (ap (λ (q : Peer). decodeTable t .header .counts .used + bit (inUse q)) s ∙ ap (λ (x : ℕ). x + bit (inUse p)) (ap (λ (n : Counts). n .used) (R .counts)) ∙ used-stored (decodeTable t) k p (R .below) h);
+      opened = subst (λ (X : Table). X .header .counts .opened + bit (isOpen (slot X k)) ≡ openCount X + bit (isOpen (slot (decodeTable t) k))) (sym e)
+          (ap (λ (q : Peer). decodeTable t .header .counts .opened + bit (isOpen q)) s ∙ ap (λ (x : ℕ). x + bit (isOpen p)) (ap (λ (n : Counts). n .opened) (R .counts)) ∙ open-stored (decodeTable t) k p (R .below) h);
     }
 
 -- counts that are true stay
-pub recounted-same : (T : Table) → T .header .used ≡ usedCount T → T .header .opened ≡ openCount T → recounted T ≡ T
+pub recounted-same : (T : Table) → T .header .counts ≡ countsOf T → recounted T ≡ T
 unfolding recounted
-recounted-same T u o = λ i. record { header = counted (T .header) (sym u i) (sym o i); peers = T .peers }
+recounted-same T e = λ i. record { header = counted (T .header) (sym e i); peers = T .peers }

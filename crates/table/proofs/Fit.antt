@@ -6,6 +6,7 @@ use native.Mathlib.Omega.{arith}
 use lib.ListN.{length, take, drop, getD, set, length-drop}
 use lib.Seq.{length-take-le}
 use Rattle.octets.specs.Octets.{part, Bytes}
+use lib.Dec.{lit<}
 use Rattle.octets.proofs.Laws.{bytes-part, bytes-drop}
 use Rattle.octets.proofs.Scan.{count-le}
 use Rattle.groups.specs.Groups.{width}
@@ -44,22 +45,12 @@ fit-placed T k p f g =
     record {
       header = record {
         shape = record {
-          slots = h .slots;
-          used = omega (arith, u, h .slots);
-          opened = omega (arith, o, h .slots);
-          size = h .size;
-          first = h .first;
+          geometry = h .geometry;
+          counts = record { used = omega (arith, u, h .geometry .slots); opened = omega (arith, o, h .geometry .slots); spare = lit< tt };
           spare = h .spare;
           own = h .own;
-          count = h .count;
-          spare1 = h .spare1;
-          groups = h .groups;
-          group0 = h .group0;
-          group1 = h .group1;
-          threshold = h .threshold;
-          spare2 = h .spare2;
+          settings = h .settings;
         };
-        spare = f .header .spare;
         own = f .header .own;
       };
       peers = fits-set k (f .peers) g;

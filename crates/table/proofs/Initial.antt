@@ -10,21 +10,22 @@ use lib.ListN.{length, take, drop, getD, replicate, length-replicate, length-dro
 use lib.Seq.{length-take-le, drop-at}
 use borrow.Rule.Slice.PartMut.{putMid}
 use borrow.Author.Tests.{eqb-true, leb-true, eq-eqb, ne-eqb, not-true, not-false}
-use Rattle.octets.specs.Octets.{Bytes, num, zeroAddress, put}
+use Rattle.octets.specs.Octets.{Bytes, put}
 use Rattle.octets.proofs.Laws.{mid-put}
 use Rattle.octets.specs.Scan.{if_then_else_, countBelow}
 use Rattle.octets.proofs.Scan.{clash, and-left, and-right}
 use Rattle.record.specs.declared.Peer.{Peer}
 use Rattle.record.specs.declared.Header.{Header}
 use Rattle.record.specs.declared.Settings.{Settings}
-use Rattle.record.specs.Layout.{noPeer, noRun, encodeHeader}
-use Rattle.record.proofs.Laws.{fit-no-peer, zero-peer}
-use Rattle.soundness.specs.Soundness.{ownOk, settingsOk, groupsOk, peerOk}
+use Rattle.record.specs.Layout.{noPeer, noRun, encodeHeader, limitOf}
+use Rattle.record.proofs.Laws.{ShapeSettings, fit-no-peer, zero-peer}
+use Rattle.soundness.specs.Soundness.{ownOk, settingsOk, peerOk}
 use Rattle.soundness.proofs.Laws.{form-header, no-peer-ok}
-use Rattle.table.specs.Table.{size, octetsOf, encodeTable, decodeTable, slot, slots, inUse, isOpen, belongs, usedCount, openCount, sound}
+use Rattle.table.specs.Table.{size, octetsOf, encodeTable, decodeTable, slot, slots, inUse, isOpen, belongs, usedCount, openCount, recounted, sound}
 use Rattle.table.specs.Initial.{slotsFor, lengthOk, initialHeader, initialTable, initialOk, initial}
 use Rattle.table.proofs.Octets.{Fits, none, more, FitTable, decode-encode, bytes-table}
 use Rattle.table.proofs.Kept.{Form, form-sound}
+use Rattle.table.proofs.Changed.{recounted-same}
 
 -- every slot of a fresh table is free
 replicate-at : (n k : ℕ) (p : Peer) → getD (replicate n p) k p ≡ p
@@ -51,24 +52,22 @@ not-open = refl
 
 module _ (s : Settings) (own : List ℕ) (n : ℕ) (ok : settingsOk s ≡ true) (o : ownOk own ≡ true) (some : 1 ≤ n) (few : n ≤ 64) where
   pub fresh-form : Form (initialTable s own n)
-  unfolding initialTable initialHeader settingsOk usedCount openCount belongs zeroAddress num
+  unfolding initialTable initialHeader usedCount openCount belongs
   fresh-form = record {
     header = form-header (initialHeader s own n) (record {
-      some = some;
-      few = few;
-      size = refl;
-      first = refl;
+      geometry = record { some = some; few = few; size = refl; first = refl };
       spare = refl;
       own = o;
-      groups = and-left _ _ ok;
-      spare1 = refl;
-      threshold = leb-true _ _ (and-right (groupsOk (s .count) (s .groups)) _ ok);
-      spare2 = refl;
+      settings = ok;
     });
-    each = λ k h. subst (λ (p : Peer). peerOk own (take (s .count) (s .groups)) p ≡ true) (sym (initial-slot s own n k)) (no-peer-ok own (take (s .count) (s .groups)));
+    each = λ k h.
+        subst (λ (p : Peer). peerOk own (take (s .count) (s .groups)) (limitOf (s .limit) + 1) p ≡ true) (sym (initial-slot s own n k))
+        (no-peer-ok own (take (s .count) (s .groups)) (limitOf (s .limit) + 1));
     apart = λ i j li lj d u. absurd (clash u (ap inUse (initial-slot s own n j) ∙ unused));
-    used = sym (no-count _ n (λ k. ap inUse (initial-slot s own n k) ∙ unused));
-    opened = sym (no-count _ n (λ k. ap isOpen (initial-slot s own n k) ∙ not-open));
+    counts =
+        let u = no-count (λ k. inUse (slot (initialTable s own n) k)) n (λ k. ap inUse (initial-slot s own n k) ∙ unused) in
+        let o = no-count (λ k. isOpen (slot (initialTable s own n) k)) n (λ k. ap isOpen (initial-slot s own n k) ∙ not-open) in
+        λ i. record { used = sym u i; opened = sym o i; spare = 0 };
   }
 
 -- what `length_ok` shows
@@ -105,40 +104,21 @@ initial-octets s own n = ap (λ (l : List ℕ). encodeHeader (initialHeader s ow
 
 -- settings and an own address whose numbers and arrays fit
 pub record FitSettings (s : Settings) (own : List ℕ) : Type 0 where
-  pub count : s .count < 256
-  pub groups : length (s .groups) ≡ 2
-  pub group0 : getD (s .groups) 0 0 < 65536
-  pub group1 : getD (s .groups) 1 0 < 65536
-  pub threshold : s .threshold < 65536
+  pub settings : ShapeSettings s
   pub six : length own ≡ 6
   pub bytes : Bytes own
-
-bytes-zeros : (n : ℕ) → Bytes (replicate n 0)
-bytes-zeros zero i = lit< tt
-bytes-zeros (suc n) zero = lit< tt
-bytes-zeros (suc n) (suc i) = bytes-zeros n i
 
 pub fit-initial : (s : Settings) (own : List ℕ) (n : ℕ) → n ≤ 64 → FitSettings s own → FitTable (initialTable s own n)
 unfolding initialTable initialHeader
 fit-initial s own n h f = record {
   header = record {
     shape = record {
-      slots = omega arith;
-      used = lit< tt;
-      opened = lit< tt;
-      size = lit< tt;
-      first = lit< tt;
-      spare = length-replicate {A = ℕ} 6 0;
+      geometry = record { slots = omega arith; size = lit< tt; first = lit< tt };
+      counts = record { used = lit< tt; opened = lit< tt; spare = lit< tt };
+      spare = lit< tt;
       own = f .six;
-      count = f .count;
-      spare1 = lit< tt;
-      groups = f .groups;
-      group0 = f .group0;
-      group1 = f .group1;
-      threshold = f .threshold;
-      spare2 = lit< tt;
+      settings = f .settings;
     };
-    spare = bytes-zeros 6;
     own = f .bytes;
   };
   peers = fits-none n;
@@ -186,6 +166,10 @@ bytes-initial s own t f b = go (initialOk s own (length t)) refl
     go : (x : Bool) → initialOk s own (length t) ≡ x → Bytes (if initialOk s own (length t) then encodeTable (initialTable s own (slotsFor (length t))) else t)
     go true e = rw e (bytes-table (initialTable s own (slotsFor (length t))) (fit-initial s own (slotsFor (length t)) (initial-ok-form s own (length t) e .few) f))
     go false e = rw e b
+
+-- its counts are true: made true, they leave it as it is
+pub initial-recounted : (s : Settings) (own : List ℕ) (n : ℕ) → settingsOk s ≡ true → ownOk own ≡ true → 1 ≤ n → n ≤ 64 → recounted (initialTable s own n) ≡ initialTable s own n
+initial-recounted s own n ok o some few = recounted-same (initialTable s own n) (fresh-form s own n ok o some few .counts)
 
 -- CAUSE 1 leaves every octet
 pub initial-refused : (s : Settings) (own t : List ℕ) → initialOk s own (length t) ≡ false → initial s own t ≡ t

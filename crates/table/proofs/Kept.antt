@@ -7,7 +7,6 @@ use Prim.Native.Nat.{ℕ, zero, suc, _+_, _*_, _<_}
 use native.Mathlib.Omega.{arith}
 use native.Mathlib.Decide.{ℕ-discrete, decLt}
 use native.Mathlib.Numerals.{add-one}
-use lib.Dec.{eqb}
 use lib.ListN.{length, length-set}
 use lib.Seq.{set-getD}
 use borrow.Author.Tests.{eqb-true, eq-eqb, not-true}
@@ -18,13 +17,14 @@ use Rattle.octets.specs.declared.Found.the-variants.{At, Nothing}
 use Rattle.octets.proofs.Scan.{clash, cases, and-left, and-right, and-both, all-true, all-of, first-none, first-more, first-ext, first-hit}
 use Rattle.groups.specs.Groups.{width}
 use Rattle.record.specs.declared.Peer.{Peer}
+use Rattle.record.specs.declared.Counts.{Counts}
 use Rattle.record.specs.Layout.{groupsOf, noPeer}
 use Rattle.record.proofs.Laws.{FitPeer}
-use Rattle.soundness.specs.Soundness.{headerOk, peerOk}
+use Rattle.soundness.specs.Soundness.{headerOk, highSync, peerOk}
 use Rattle.soundness.proofs.Laws.{header-counted}
-use Rattle.table.specs.Table.{Table, size, decodeTable, encodeTable, slot, slots, inUse, belongs, alone, slotsOk, addressesOk, countsOk, sound, usedCount, openCount, withPeer, placed, recounted, finds, look, lookBy}
+use Rattle.table.specs.Table.{Table, size, decodeTable, encodeTable, slot, slots, inUse, belongs, alone, slotsOk, addressesOk, countsOk, sound, usedCount, openCount, countsOf, withPeer, placed, recounted, finds, look, lookBy}
 use Rattle.table.proofs.Octets.{FitTable, decode-encode, encode-decode, length-table}
-use Rattle.table.proofs.Laws.{sound-header, sound-whole, sound-addresses, sound-counts, sound-peer, sound-of, slot-same, slot-other, peers-held, found-below}
+use Rattle.table.proofs.Laws.{sound-header, sound-whole, sound-addresses, sound-counts, sound-peer, sound-of, slot-same, slot-other, peers-held, found-below, counts-true}
 use Rattle.table.proofs.Changed.{recounted-same}
 use Rattle.table.proofs.Fit.{fit-decoded, fit-placed}
 
@@ -40,10 +40,9 @@ same-trans a b d e f = eq-eqb _ _ (eqb-true (num a) (num b) e ∙ eqb-true (num 
 -- the form as facts
 pub record Form (T : Table) : Type 0 where
   pub header : headerOk (T .header) ≡ true
-  pub each : (k : ℕ) → k < slots T → peerOk (T .header .own) (groupsOf (T .header)) (slot T k) ≡ true
+  pub each : (k : ℕ) → k < slots T → peerOk (T .header .own) (groupsOf (T .header)) (highSync (T .header)) (slot T k) ≡ true
   pub apart : (i j : ℕ) → i < slots T → j < slots T → (i ≡ j → ⊥) → inUse (slot T j) ≡ true → belongs (slot T j .address) (slot T i) ≡ false
-  pub used : T .header .used ≡ usedCount T
-  pub opened : T .header .opened ≡ openCount T
+  pub counts : T .header .counts ≡ countsOf T
 
 -- two records with one address
 meet : (p q : Peer) → inUse p ≡ true → belongs (p .address) q ≡ true → (inUse q ≡ true) × (belongs (q .address) p ≡ true)
@@ -77,13 +76,11 @@ slots-apart T s i j li lj d u = elim (decLt i j) [
 ]
 
 pub sound-form : (t : List ℕ) → sound t ≡ true → Form (decodeTable t)
-unfolding countsOk
 sound-form t s = record {
   header = sound-header t s;
   each = sound-peer t s;
   apart = slots-apart (decodeTable t) (sound-addresses t s);
-  used = eqb-true _ _ (and-left _ _ (sound-counts t s));
-  opened = eqb-true _ _ (and-right (eqb (decodeTable t .header .used) (usedCount (decodeTable t))) _ (sound-counts t s));
+  counts = counts-true (decodeTable t) (sound-counts t s);
 }
 
 alone-of : (T : Table) → Form T → (k : ℕ) → k < slots T → alone T k ≡ true
@@ -104,7 +101,9 @@ form-addresses T F = all-of (alone T) (slots T) (alone-of T F)
 
 form-counts : (T : Table) → Form T → countsOk T ≡ true
 unfolding countsOk
-form-counts T F = and-both _ _ (eq-eqb _ _ (F .used)) (eq-eqb _ _ (F .opened))
+form-counts T F =
+    and-both _ _ (eq-eqb _ _ (ap (λ (n : Counts). n .used) (F .counts)))
+    (and-both _ _ (eq-eqb _ _ (ap (λ (n : Counts). n .opened) (F .counts))) (eq-eqb _ _ (ap (λ (n : Counts). n .spare) (F .counts))))
 
 pub form-sound : (T : Table) → FitTable T → length (T .peers) ≡ slots T → Form T → sound (encodeTable T) ≡ true
 form-sound T f n F =
@@ -130,13 +129,9 @@ module _ (T : Table) (k : ℕ) (p : Peer) (l : k < length (T .peers)) where
   placed-other j d = slot-other T k p j d
 
   -- THE COUNTS are true
-  pub placed-used : placed T k p .header .used ≡ usedCount (placed T k p)
-  unfolding placed recounted usedCount withPeer slot
-  placed-used = refl
-
-  pub placed-open : placed T k p .header .opened ≡ openCount (placed T k p)
-  unfolding placed recounted openCount withPeer slot
-  placed-open = refl
+  pub placed-counts : placed T k p .header .counts ≡ countsOf (placed T k p)
+  unfolding placed recounted usedCount openCount withPeer slot
+  placed-counts = refl
 
 -- a record that is alone with its address
 abbrev pub Alone : Table → ℕ → Peer → Type 0
@@ -164,24 +159,23 @@ placed-apart T k p l F A i j li lj d u = elim (ℕ-discrete j k) [
 
 placed-header : (T : Table) (k : ℕ) (p : Peer) → headerOk (placed T k p .header) ≡ headerOk (T .header)
 unfolding placed recounted withPeer
-placed-header T k p = header-counted (T .header) (usedCount (withPeer T k p)) (openCount (withPeer T k p))
+placed-header T k p = header-counted (T .header) (countsOf (withPeer T k p))
 
 placed-slots : (T : Table) (k : ℕ) (p : Peer) → slots (placed T k p) ≡ slots T
 unfolding placed recounted withPeer
 placed-slots T k p = refl
 
 -- THE FORM IS KEPT
-pub placed-form : (T : Table) (k : ℕ) (p : Peer) → k < length (T .peers) → Form T → peerOk (T .header .own) (groupsOf (T .header)) p ≡ true → Alone T k p → Form (placed T k p)
+pub placed-form : (T : Table) (k : ℕ) (p : Peer) → k < length (T .peers) → Form T → peerOk (T .header .own) (groupsOf (T .header)) (highSync (T .header)) p ≡ true → Alone T k p → Form (placed T k p)
 unfolding placed recounted withPeer
 placed-form T k p l F g A = record {
   header = placed-header T k p ∙ F .header;
   each = λ j h. good j (rw (placed-slots T k p) at h);
   apart = λ i j li lj. placed-apart T k p l F A i j (rw (placed-slots T k p) at li) (rw (placed-slots T k p) at lj);
-  used = placed-used T k p l;
-  opened = placed-open T k p l;
+  counts = placed-counts T k p l;
 }
   where
-    good : (j : ℕ) → j < slots T → peerOk (T .header .own) (groupsOf (T .header)) (slot (placed T k p) j) ≡ true
+    good : (j : ℕ) → j < slots T → peerOk (T .header .own) (groupsOf (T .header)) (highSync (T .header)) (slot (placed T k p) j) ≡ true
     good j h = elim (ℕ-discrete j k) [
       | yes e ↦ rw (e, placed-same T k p l) g
       | no d ↦ rw (placed-other T k p l j d) (F .each j h)
@@ -193,7 +187,7 @@ peers-placed T k p = length-set (T .peers) k p
 
 -- and so is soundness, for every call that places a good record
 pub placed-sound : (t : List ℕ) (k : ℕ) (p : Peer) → Bytes t → sound t ≡ true → k < slots (decodeTable t) → FitPeer width p
-    → peerOk (decodeTable t .header .own) (groupsOf (decodeTable t .header)) p ≡ true → Alone (decodeTable t) k p → sound (encodeTable (placed (decodeTable t) k p)) ≡ true
+    → peerOk (decodeTable t .header .own) (groupsOf (decodeTable t .header)) (highSync (decodeTable t .header)) p ≡ true → Alone (decodeTable t) k p → sound (encodeTable (placed (decodeTable t) k p)) ≡ true
 placed-sound t k p b s h f g A =
     let w : length t ≡ 32 + size * slots (decodeTable t) = sound-whole t s in
     let n : length (decodeTable t .peers) ≡ slots (decodeTable t) = peers-held t (slots (decodeTable t)) w in
@@ -281,9 +275,11 @@ pub stored-own : (T : Table) (k : ℕ) → withPeer T k (slot T k) ≡ T
 unfolding withPeer slot
 stored-own T k = λ i. record { header = T .header; peers = set-getD (T .peers) k noPeer i }
 
+-- THE COUNTS of a sound table made true leave every octet
+pub recounted-again : (t : List ℕ) → Bytes t → sound t ≡ true → encodeTable (recounted (decodeTable t)) ≡ t
+recounted-again t b s =
+    ap encodeTable (recounted-same (decodeTable t) (sound-form t s .counts)) ∙ encode-decode t (slots (decodeTable t)) b (sound-whole t s)
+
 pub placed-again : (t : List ℕ) (k : ℕ) → Bytes t → sound t ≡ true → encodeTable (placed (decodeTable t) k (slot (decodeTable t) k)) ≡ t
 unfolding placed
-placed-again t k b s =
-    let F = sound-form t s in
-    ap (λ (T : Table). encodeTable (recounted T)) (stored-own (decodeTable t) k) ∙ ap encodeTable (recounted-same (decodeTable t) (F .used) (F .opened))
-    ∙ encode-decode t (slots (decodeTable t)) b (sound-whole t s)
+placed-again t k b s = ap (λ (T : Table). encodeTable (recounted T)) (stored-own (decodeTable t) k) ∙ recounted-again t b s

@@ -6,7 +6,7 @@ use mathlib.Core.List.{List}
 use Prim.Native.Nat.{ℕ, zero, suc, _+_, _-_, _*_, _/_, _≤_, _<_}
 use native.Mathlib.Omega.{arith}
 use native.Mathlib.Decide.{ℕ-discrete}
-use lib.Dec.{eqb, leb}
+use lib.Dec.{eqb, leb, lit<}
 use lib.ListN.{length}
 use lib.Seq.{getD-set-same, getD-set-other}
 use borrow.Author.Tests.{eqb-true, leb-true, eq-eqb, le-leb, lt-leb, ne-eqb, not-true, not-false}
@@ -16,16 +16,32 @@ use Rattle.octets.specs.declared.Found.{Found}
 use Rattle.octets.specs.declared.Found.the-variants.{At, Nothing}
 use Rattle.octets.proofs.Scan.{cases, clash, and-left, and-right, and-both, all-true, all-of, first-at, first-nothing, last-at, count-but, count-le, bit-le}
 use Rattle.record.specs.declared.Peer.{Peer}
+use Rattle.record.specs.declared.Counts.{Counts}
 use Rattle.record.specs.declared.Header.{Header}
-use Rattle.record.specs.Layout.{groupsOf}
-use Rattle.soundness.specs.Soundness.{usable, headerOk, peerOk}
-use Rattle.soundness.proofs.Laws.{header-form, groups-form}
-use Rattle.table.specs.Table.{Table, size, decodeTable, slot, slots, inUse, isOpen, belongs, alone, slotsOk, addressesOk, countsOk, sound, usedCount, openCount, finds, freeSlot, entry, foundEntry, withPeer, standingOf, Changed, Ready, Whole, Sized, Looked, Enters}
+use Rattle.record.specs.Layout.{groupsOf, limitOf}
+use Rattle.soundness.specs.Soundness.{usable, headerOk, highSync, peerOk}
+use Rattle.soundness.proofs.Laws.{header-form, settings-form, groups-form}
+use Rattle.table.specs.Table.{Table, size, decodeTable, slot, slots, inUse, isOpen, belongs, alone, slotsOk, addressesOk, countsOk, sound, usedCount, openCount, countsOf, finds, freeSlot, entry, foundEntry, withPeer, standingOf, Changed, Ready, Whole, Sized, Looked, Enters}
 use Rattle.table.specs.declared.Entrance.{Entrance}
 use Rattle.table.specs.declared.Standing.{Standing}
 use Rattle.table.specs.declared.Entry.{Entry}
 use Rattle.table.specs.declared.Entry.the-variants as entry-is
 use Rattle.table.proofs.Octets.{length-peers}
+
+-- the counts are those of the records, place by place
+pub counts-true : (T : Table) → countsOk T ≡ true → T .header .counts ≡ countsOf T
+unfolding countsOk
+counts-true T ok =
+    let k₁ = and-right (eqb (T .header .counts .used) (usedCount T)) _ ok in
+    let u : T .header .counts .used ≡ usedCount T = eqb-true _ _ (and-left _ _ ok) in
+    let o : T .header .counts .opened ≡ openCount T = eqb-true _ _ (and-left _ _ k₁) in
+    let z : T .header .counts .spare ≡ 0 = eqb-true _ _ (and-right (eqb (T .header .counts .opened) (openCount T)) _ k₁) in
+    λ i. record { used = u i; opened = o i; spare = z i }
+
+-- an entry of 0 stands for the factory's limit, and the highest Sync is in its octet's range
+factory-low : {entry : ℕ} → entry ≡ 0 → limitOf entry + 1 < 256
+unfolding limitOf
+factory-low e = rw e (lit< tt)
 
 -- what soundness says
 module _ (t : List ℕ) (s : sound t ≡ true) where
@@ -62,22 +78,20 @@ module _ (t : List ℕ) (s : sound t ≡ true) where
   sound-counts = and-right (addressesOk (decodeTable t)) _ after-slots
 
   pub sound-small : slots (decodeTable t) ≤ 64
-  sound-small = header-form (decodeTable t .header) sound-header .few
+  sound-small = header-form (decodeTable t .header) sound-header .geometry .few
 
   -- A RECORD OF A SOUND TABLE has its form
-  pub sound-peer : (k : ℕ) → k < slots (decodeTable t) → peerOk (decodeTable t .header .own) (groupsOf (decodeTable t .header)) (slot (decodeTable t) k) ≡ true
+  pub sound-peer : (k : ℕ) → k < slots (decodeTable t) → peerOk (decodeTable t .header .own) (groupsOf (decodeTable t .header)) (highSync (decodeTable t .header)) (slot (decodeTable t) k) ≡ true
   unfolding slotsOk
-  sound-peer k h = all-true (λ j. peerOk (decodeTable t .header .own) (groupsOf (decodeTable t .header)) (slot (decodeTable t) j)) (slots (decodeTable t)) sound-slots k h
+  sound-peer k h = all-true (λ j. peerOk (decodeTable t .header .own) (groupsOf (decodeTable t .header)) (highSync (decodeTable t .header)) (slot (decodeTable t) j)) (slots (decodeTable t)) sound-slots k h
 
   pub ready : (k : ℕ) → k < slots (decodeTable t) → Ready t k
-  unfolding countsOk
   ready k h = record {
     fits = omega (arith, sound-whole);
     whole = sound-whole;
     below = h;
     small = sound-small;
-    used = eqb-true _ _ (and-left _ _ sound-counts);
-    opened = eqb-true _ _ (and-right (eqb (decodeTable t .header .used) (usedCount (decodeTable t))) _ sound-counts);
+    counts = counts-true (decodeTable t) sound-counts;
   }
 
 -- soundness from its parts
@@ -116,19 +130,20 @@ module _ (t : List ℕ) (h : Header) (e : h ≡ decodeTable t .header) where
   pub not-header-by : (ok : Bool) → ok ≡ headerOk h → not ok ≡ true → false ≡ sound t
   not-header-by ok p q = not-header t (ap headerOk (sym e) ∙ sym p ∙ not-true ok q)
 
-  pub not-whole-by : (length t ≡ 32 + size * h .slots → ⊥) → false ≡ sound t
-  not-whole-by d = not-whole t (λ q. d (q ∙ ap (λ (g : Header). 32 + size * g .slots) (sym e)))
+  pub not-whole-by : (length t ≡ 32 + size * h .geometry .slots → ⊥) → false ≡ sound t
+  not-whole-by d = not-whole t (λ q. d (q ∙ ap (λ (g : Header). 32 + size * g .geometry .slots) (sym e)))
 
-  pub whole-by : (ok : Bool) → ok ≡ headerOk h → not ok ≡ false → length t ≡ 32 + size * h .slots → Whole t h (h .slots)
+  pub whole-by : (ok : Bool) → ok ≡ headerOk h → not ok ≡ false → length t ≡ 32 + size * h .geometry .slots → Whole t h (h .geometry .slots)
   whole-by ok p q w =
       let f = header-form h (sym p ∙ not-false ok q) in
-      let g = groups-form (h .count) (h .groups) (f .groups) in
-      record { long = omega (arith, w); header = e; slots = ap (λ (g : Header). g .slots) e; few = f .few; some = g .some; most = g .few }
+      let s = settings-form (h .settings) (f .settings) in
+      let g = groups-form (h .settings .count) (h .settings .groups) (s .groups) in
+      record { long = omega (arith, w); header = e; slots = ap (λ (g : Header). g .geometry .slots) e; few = f .geometry .few; some = g .some; most = omega (arith, g .few); low = factory-low (s .limit) }
 
-  pub body-by : (ok r : Bool) → 32 ≤ length t → ok ≡ headerOk h → not ok ≡ false → length t ≡ 32 + size * h .slots
+  pub body-by : (ok r : Bool) → 32 ≤ length t → ok ≡ headerOk h → not ok ≡ false → length t ≡ 32 + size * h .geometry .slots
       → r ≡ (slotsOk (decodeTable t) && (addressesOk (decodeTable t) && countsOk (decodeTable t))) → r ≡ sound t
   body-by ok r l p q w er =
-      let g : h .slots ≡ slots (decodeTable t) = ap (λ (g : Header). g .slots) e in
+      let g : h .geometry .slots ≡ slots (decodeTable t) = ap (λ (g : Header). g .geometry .slots) e in
       er ∙ body-sound t l (ap headerOk (sym e) ∙ sym p ∙ not-false ok q) (w ∙ ap (λ (n : ℕ). 32 + size * n) g)
 
 -- ---- fewer than two records in use have no address twice
@@ -167,30 +182,32 @@ pub addresses-all : (T : Table) (n : ℕ) (r : Bool) → n ≡ slots T → r ≡
 unfolding addressesOk
 addresses-all T n r e q = rw (q, e) refl
 
-forms-law : (t own gs : List ℕ) (h : Header) (n : ℕ) (s : Bool) → Whole t h n → own ≡ h .own → gs ≡ groupsOf h → s ≡ allBelow (λ k. peerOk own gs (slot (decodeTable t) k)) n → s ≡ slotsOk (decodeTable t)
+forms-law : (t own gs : List ℕ) (h : Header) (n high : ℕ) (s : Bool) → Whole t h n → own ≡ h .own → gs ≡ groupsOf h → high ≡ highSync h
+    → s ≡ allBelow (λ k. peerOk own gs high (slot (decodeTable t) k)) n → s ≡ slotsOk (decodeTable t)
 unfolding slotsOk
-forms-law t own gs h n s w eo eg es =
+forms-law t own gs h n high s w eo eg eh es =
     let n′ : n ≡ slots (decodeTable t) = w .slots in
     let o : own ≡ decodeTable t .header .own = eo ∙ ap (λ (g : Header). g .own) (w .header) in
     let g : gs ≡ groupsOf (decodeTable t .header) = eg ∙ ap groupsOf (w .header) in
-    rw (es, o, g, n′) refl
+    let x : high ≡ highSync (decodeTable t .header) = eh ∙ ap (λ (g : Header). highSync g) (w .header) in
+    rw (es, o, g, x, n′) refl
 
-counted-right : (t : List ℕ) (h : Header) (n : ℕ) → Whole t h n → countsOk (decodeTable t) ≡ true → h .used ≡ usedCount (decodeTable t)
+counted-right : (t : List ℕ) (h : Header) (n : ℕ) → Whole t h n → countsOk (decodeTable t) ≡ true → h .counts .used ≡ usedCount (decodeTable t)
 unfolding countsOk
-counted-right t h n w z = ap (λ (g : Header). g .used) (w .header) ∙ eqb-true _ _ (and-left _ _ z)
+counted-right t h n w z = ap (λ (g : Header). g .counts .used) (w .header) ∙ eqb-true _ _ (and-left _ _ z)
 
 none : (x : Bool) → (x && false) ≡ false
 none true = refl
 none false = refl
 
 -- what `body_ok` shows: where the count is wrong, the addresses do not tell
-pub body-law : (t own gs : List ℕ) (h : Header) (n : ℕ) (s a c : Bool) → Whole t h n → own ≡ h .own → gs ≡ groupsOf h
-    → s ≡ allBelow (λ k. peerOk own gs (slot (decodeTable t) k)) n → (h .used ≡ usedCount (decodeTable t) → a ≡ addressesOk (decodeTable t)) → c ≡ countsOk (decodeTable t)
+pub body-law : (t own gs : List ℕ) (h : Header) (n high : ℕ) (s a c : Bool) → Whole t h n → own ≡ h .own → gs ≡ groupsOf h → high ≡ highSync h
+    → s ≡ allBelow (λ k. peerOk own gs high (slot (decodeTable t) k)) n → (h .counts .used ≡ usedCount (decodeTable t) → a ≡ addressesOk (decodeTable t)) → c ≡ countsOk (decodeTable t)
     → (s && (a && c)) ≡ (slotsOk (decodeTable t) && (addressesOk (decodeTable t) && countsOk (decodeTable t)))
-body-law t own gs h n s a c w eo eg es ea ec = ap (λ (x : Bool). x && (a && c)) slots-are ∙ ap (λ (x : Bool). slotsOk (decodeTable t) && x) (go (cases (countsOk (decodeTable t))))
+body-law t own gs h n high s a c w eo eg eh es ea ec = ap (λ (x : Bool). x && (a && c)) slots-are ∙ ap (λ (x : Bool). slotsOk (decodeTable t) && x) (go (cases (countsOk (decodeTable t))))
   where
     slots-are : s ≡ slotsOk (decodeTable t)
-    slots-are = forms-law t own gs h n s w eo eg es
+    slots-are = forms-law t own gs h n high s w eo eg eh es
 
     go : (countsOk (decodeTable t) ≡ true) ⊎ (countsOk (decodeTable t) ≡ false) → (a && c) ≡ (addressesOk (decodeTable t) && countsOk (decodeTable t))
     go (inl z) = rw (ec, ea (counted-right t h n w z)) refl
@@ -286,29 +303,32 @@ module _ (t : List ℕ) (k : ℕ) (h : Header) (was : Standing) (C : Changed t k
   below : k < slots (decodeTable t)
   below = omega (arith, C .fits, C .whole)
 
-  used-now : h .used + bit (inUse (slot (decodeTable t) k)) ≡ usedCount (decodeTable t) + bit (was .used)
-  used-now = ap (λ (g : Header). g .used + bit (inUse (slot (decodeTable t) k))) (C .header) ∙ C .used
+  used-now : h .counts .used + bit (inUse (slot (decodeTable t) k)) ≡ usedCount (decodeTable t) + bit (was .used)
+  used-now = ap (λ (g : Header). g .counts .used + bit (inUse (slot (decodeTable t) k))) (C .header) ∙ C .used
 
-  open-now : h .opened + bit (isOpen (slot (decodeTable t) k)) ≡ openCount (decodeTable t) + bit (was .opened)
-  open-now = ap (λ (g : Header). g .opened + bit (isOpen (slot (decodeTable t) k))) (C .header) ∙ C .opened
+  open-now : h .counts .opened + bit (isOpen (slot (decodeTable t) k)) ≡ openCount (decodeTable t) + bit (was .opened)
+  open-now = ap (λ (g : Header). g .counts .opened + bit (isOpen (slot (decodeTable t) k))) (C .header) ∙ C .opened
 
-  pub share-used : (bit (was .used) ≤ h .used) × (h .used ≤ 64)
+  pub share-used : (bit (was .used) ≤ h .counts .used) × (h .counts .used ≤ 64)
   unfolding usedCount
-  share-used = share (λ j. inUse (slot (decodeTable t) j)) (slots (decodeTable t)) k (h .used) (was .used) below (C .small) used-now
+  share-used = share (λ j. inUse (slot (decodeTable t) j)) (slots (decodeTable t)) k (h .counts .used) (was .used) below (C .small) used-now
 
-  pub share-open : (bit (was .opened) ≤ h .opened) × (h .opened ≤ 64)
+  pub share-open : (bit (was .opened) ≤ h .counts .opened) × (h .counts .opened ≤ 64)
   unfolding openCount
-  share-open = share (λ j. isOpen (slot (decodeTable t) j)) (slots (decodeTable t)) k (h .opened) (was .opened) below (C .small) open-now
+  share-open = share (λ j. isOpen (slot (decodeTable t) j)) (slots (decodeTable t)) k (h .counts .opened) (was .opened) below (C .small) open-now
 
-  pub after-used : (is : Bool) (r : ℕ) → is ≡ inUse (slot (decodeTable t) k) → r + bit (was .used) ≡ h .used + bit is → r ≡ usedCount (decodeTable t)
-  after-used is r q w = balance r (h .used) _ (was .used) is w (ap (λ (b : Bool). h .used + bit b) q ∙ used-now)
+  pub after-used : (is : Bool) (r : ℕ) → is ≡ inUse (slot (decodeTable t) k) → r + bit (was .used) ≡ h .counts .used + bit is → r ≡ usedCount (decodeTable t)
+  after-used is r q w = balance r (h .counts .used) _ (was .used) is w (ap (λ (b : Bool). h .counts .used + bit b) q ∙ used-now)
 
-  pub after-open : (is : Bool) (r : ℕ) → is ≡ isOpen (slot (decodeTable t) k) → r + bit (was .opened) ≡ h .opened + bit is → r ≡ openCount (decodeTable t)
-  after-open is r q w = balance r (h .opened) _ (was .opened) is w (ap (λ (b : Bool). h .opened + bit b) q ∙ open-now)
+  pub after-open : (is : Bool) (r : ℕ) → is ≡ isOpen (slot (decodeTable t) k) → r + bit (was .opened) ≡ h .counts .opened + bit is → r ≡ openCount (decodeTable t)
+  after-open is r q w = balance r (h .counts .opened) _ (was .opened) is w (ap (λ (b : Bool). h .counts .opened + bit b) q ∙ open-now)
+
+pub after-law : (T : Table) (u o : ℕ) → u ≡ usedCount T → o ≡ openCount T → _≡_ {A = Counts} (record { used = u; opened = o; spare = 0 }) (countsOf T)
+after-law T u o eu eo = λ i. record { used = eu i; opened = eo i; spare = 0 }
 
 -- what `slots_of` shows
-pub slots-law : (t : List ℕ) (h : Header) → sound t ≡ true → h ≡ decodeTable t .header → (h .slots ≡ slots (decodeTable t)) × (32 + size * h .slots ≡ length t)
-slots-law t h s e = let g : h .slots ≡ slots (decodeTable t) = ap (λ (g : Header). g .slots) e in (g, rw g (sym (sound-whole t s)))
+pub slots-law : (t : List ℕ) (h : Header) → sound t ≡ true → h ≡ decodeTable t .header → (h .geometry .slots ≡ slots (decodeTable t)) × (32 + size * h .geometry .slots ≡ length t)
+slots-law t h s e = let g : h .geometry .slots ≡ slots (decodeTable t) = ap (λ (g : Header). g .geometry .slots) e in (g, rw g (sym (sound-whole t s)))
 
 -- from a negated test
 pub sound-by : (t : List ℕ) (b : Bool) → b ≡ sound t → not b ≡ false → sound t ≡ true
@@ -345,7 +365,7 @@ module _ (t : List ℕ) (whole : Bool) (h : Header) (L : Looked t whole h) where
   pub looked-own : not whole ≡ false → h .own ≡ decodeTable t .header .own
   looked-own q = ap (λ (g : Header). g .own) (looked-header q)
 
-  pub looked-sized : not whole ≡ false → Sized t (h .slots)
+  pub looked-sized : not whole ≡ false → Sized t (h .geometry .slots)
   looked-sized q = let w = slots-law t h (looked-sound q) (looked-header q) in record { number = w .0; long = omega (arith, w .1) }
 
 -- what the test came to

@@ -8,13 +8,14 @@ use lib.Dec.{lit≤}
 use lib.ListN.{length, take, drop, getD, set, length-append, length-drop, take-append-drop}
 use lib.Seq.{length-take-le, take-at, drop-at, take-add, drop-drop}
 use Rattle.octets.specs.Octets.{part, put, num, oct, Bytes}
-use Rattle.octets.proofs.Laws.{bytes-part, bytes-drop, bytes-append, part-part, length-put, length-oct, part-put-before, part-put-after}
+use Rattle.octets.proofs.Laws.{bytes-part, bytes-drop, bytes-append, part-part, length-put, length-oct, oct-part, put-part, part-put-before, part-put-after}
 use Rattle.groups.specs.Groups.{width}
-use Rattle.record.specs.Layout.{encodePeer, decodePeer, decodeRun, runOf, runWidths, encodeHeader, decodeHeader, counted, noPeer, runSize}
+use Rattle.record.specs.declared.Counts.{Counts}
+use Rattle.record.specs.Layout.{encodePeer, decodePeer, decodeRun, runOf, runWidths, encodeHeader, decodeHeader, headerOf, headerWidths, counted, noPeer, runSize}
 use Rattle.record.specs.Codec.{cut}
 use Rattle.record.specs.declared.Peer.{Peer}
 use Rattle.record.proofs.Laws.{enc-dec-peer, dec-enc-peer, ShapePeer, FitPeer, shape-peer, length-peer, bytes-peer, peer-at, enc-dec-header, dec-enc-header, length-header, bytes-header, header-front, counted-put, num-part, FitHeader}
-use Rattle.table.specs.Table.{Table, size, peersOf, octetsOf, decodeTable, encodeTable, slot, recounted, withPeer, placed, usedCount, openCount}
+use Rattle.table.specs.Table.{Table, size, peersOf, octetsOf, decodeTable, encodeTable, slot, recounted, withPeer, placed, usedCount, openCount, countsOf}
 
 -- the record that lies in a slot's octets
 unfoldable pub recordAt : List ℕ → ℕ → Peer
@@ -121,32 +122,62 @@ with-peer-octets t n k p b h l f =
     let m : length (drop 32 t) ≡ size * n = length-drop 32 t ∙ omega arith in
     rw (q, enc-dec-header t b (omega arith), set-octets n k (drop 32 t) p (bytes-drop 32 t b) m l (length-peer width p f)) (put-after 32 (size * k) t (encodePeer p))
 
-counts-put : (T : Table) (u o : ℕ) → put (encodeTable T) 2 (oct 2 u ++ oct 2 o) ≡ encodeTable (record { header = counted (T .header) u o; peers = T .peers })
+counts-put : (T : Table) (n : Counts)
+    → put (put (encodeTable T) 2 (oct 2 (n .used) ++ oct 2 (n .opened))) 12 (oct 2 (n .spare)) ≡ encodeTable (record { header = counted (T .header) n; peers = T .peers })
 unfolding encodeTable
-counts-put T u o = counted-put (T .header) (octetsOf (T .peers)) u o
+counts-put T n = counted-put (T .header) (octetsOf (T .peers)) n
 
 -- what `recount` shows
-pub recount-law : (t v : List ℕ) (n u o : ℕ) → Bytes t → length t ≡ 32 + size * n → v ≡ put t 2 (oct 2 u ++ oct 2 o)
-    → u ≡ usedCount (decodeTable t) → o ≡ openCount (decodeTable t) → v ≡ encodeTable (recounted (decodeTable t))
+pub recount-law : (t v : List ℕ) (m : ℕ) (n : Counts) → Bytes t → length t ≡ 32 + size * m
+    → v ≡ put (put t 2 (oct 2 (n .used) ++ oct 2 (n .opened))) 12 (oct 2 (n .spare)) → n ≡ countsOf (decodeTable t) → v ≡ encodeTable (recounted (decodeTable t))
 unfolding recounted
-recount-law t v n u o b h e eu eo =
-    e ∙ ap (λ (x : List ℕ). put x 2 (oct 2 u ++ oct 2 o)) (sym (encode-decode t n b h)) ∙ counts-put (decodeTable t) u o
-    ∙ (λ i. encodeTable (record { header = counted (decodeTable t .header) (eu i) (eo i); peers = decodeTable t .peers }))
+recount-law t v m n b h e en =
+    e ∙ ap (λ (x : List ℕ). put (put x 2 (oct 2 (n .used) ++ oct 2 (n .opened))) 12 (oct 2 (n .spare))) (sym (encode-decode t m b h)) ∙ counts-put (decodeTable t) n
+    ∙ (λ i. encodeTable (record { header = counted (decodeTable t .header) (en i); peers = decodeTable t .peers }))
+
+-- the third place of the counts holds zero octets where it says 0, and they stay
+third-zero : (t : List ℕ) → Bytes t → 32 ≤ length t → decodeTable t .header .counts .spare ≡ 0 → part t 12 2 ≡ oct 2 0
+unfolding decodeTable decodeHeader headerOf headerWidths cut
+third-zero t b h z = sym (ap (oct 2) (sym z) ∙ oct-part t 12 2 b (omega arith))
 
 -- A RECORD PLACED, with its counts, is two puts
-pub placed-octets : (t : List ℕ) (n k : ℕ) (p : Peer) → Bytes t → length t ≡ 32 + size * n → k < n → ShapePeer width p
+pub placed-octets : (t : List ℕ) (n k : ℕ) (p : Peer) → Bytes t → length t ≡ 32 + size * n → k < n → ShapePeer width p → decodeTable t .header .counts .spare ≡ 0
     → encodeTable (placed (decodeTable t) k p) ≡
     put (put t (32 + size * k) (encodePeer p)) 2 (oct 2 (usedCount (withPeer (decodeTable t) k p)) ++ oct 2 (openCount (withPeer (decodeTable t) k p)))
 unfolding placed recounted
-placed-octets t n k p b h l f =
-    sym (ap (λ (x : List ℕ). put x 2 (oct 2 (usedCount (withPeer (decodeTable t) k p)) ++ oct 2 (openCount (withPeer (decodeTable t) k p)))) (sym (with-peer-octets t n k p b h l f)) ∙ counts-put (withPeer (decodeTable t) k p) _ _)
+placed-octets t n k p b h l f z =
+    sym (counts-put (withPeer (decodeTable t) k p) (countsOf (withPeer (decodeTable t) k p)))
+    ∙ ap (λ (x : List ℕ). put (put x 2 v) 12 (oct 2 0)) (with-peer-octets t n k p b h l f) ∙ ap (put (put s 2 v) 12) (sym third) ∙ put-part (put s 2 v) 12 2 (omega (arith, lv, ls))
+  where
+    s : List ℕ
+    s = put t (32 + size * k) (encodePeer p)
+
+    v : List ℕ
+    v = oct 2 (usedCount (withPeer (decodeTable t) k p)) ++ oct 2 (openCount (withPeer (decodeTable t) k p))
+
+    lp : length (encodePeer p) ≡ size
+    lp = length-peer width p f
+
+    ls : length s ≡ length t
+    ls = length-put t (32 + size * k) (encodePeer p) (omega (arith, lp))
+
+    l4 : length v ≡ 4
+    l4 = length-append (oct 2 (usedCount (withPeer (decodeTable t) k p))) (oct 2 (openCount (withPeer (decodeTable t) k p)))
+        ∙ omega (arith, length-oct 2 (usedCount (withPeer (decodeTable t) k p)), length-oct 2 (openCount (withPeer (decodeTable t) k p)))
+
+    lv : length (put s 2 v) ≡ length s
+    lv = length-put s 2 v (omega (arith, l4, ls))
+
+    third : part (put s 2 v) 12 2 ≡ oct 2 0
+    third = part-put-after s 2 v 12 2 (omega (arith, l4, ls)) (omega (arith, l4)) ∙ part-put-before t (32 + size * k) (encodePeer p) 12 2 (omega arith) (omega arith)
+        ∙ third-zero t b (omega arith) z
 
 -- EVERY OTHER OCTET stays: before the counts, between them and the slot, and past the slot
-pub placed-outside : (t : List ℕ) (n k : ℕ) (p : Peer) (at m : ℕ) → Bytes t → length t ≡ 32 + size * n → k < n → ShapePeer width p
+pub placed-outside : (t : List ℕ) (n k : ℕ) (p : Peer) (at m : ℕ) → Bytes t → length t ≡ 32 + size * n → k < n → ShapePeer width p → decodeTable t .header .counts .spare ≡ 0
     → ((at + m ≤ 2) ⊎ ((6 ≤ at) × (at + m ≤ 32 + size * k))) ⊎ (32 + size * k + size ≤ at)
     → part (encodeTable (placed (decodeTable t) k p)) at m ≡ part t at m
-placed-outside t n k p at m b h l f w =
-    ap (λ (x : List ℕ). part x at m) (placed-octets t n k p b h l f) ∙ go w
+placed-outside t n k p at m b h l f z w =
+    ap (λ (x : List ℕ). part x at m) (placed-octets t n k p b h l f z) ∙ go w
   where
     v : List ℕ
     v = oct 2 (usedCount (withPeer (decodeTable t) k p)) ++ oct 2 (openCount (withPeer (decodeTable t) k p))

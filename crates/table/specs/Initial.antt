@@ -23,18 +23,11 @@ lengthOk n = leb 1 (slotsFor n) && (leb (slotsFor n) 64 && eqb n (32 + size * sl
 unfoldable pub initialHeader : Settings → List ℕ → ℕ → Header
 initialHeader s own n =
     record {
-      slots = n;
-      used = 0;
-      opened = 0;
-      size = size;
-      first = 32;
-      spare = replicate 6 0;
+      geometry = record { slots = n; size = size; first = 32 };
+      counts = record { used = 0; opened = 0; spare = 0 };
+      spare = 0;
       own = own;
-      count = s .count;
-      spare1 = 0;
-      groups = s .groups;
-      threshold = s .threshold;
-      spare2 = 0;
+      settings = s;
     }
 
 unfoldable pub initialTable : Settings → List ℕ → ℕ → Table

@@ -11,9 +11,10 @@ use Rattle.octets.specs.declared.Found.{Found}
 use Rattle.octets.specs.declared.Found.the-variants.{At, Nothing}
 use Rattle.groups.specs.Groups.{width}
 use Rattle.record.specs.declared.Peer.{Peer}
+use Rattle.record.specs.declared.Counts.{Counts}
 use Rattle.record.specs.declared.Header.{Header}
 use Rattle.record.specs.Layout.{encodePeer, decodePeer, encodeHeader, decodeHeader, counted, groupsOf, recordSize, noPeer}
-use Rattle.soundness.specs.Soundness.{usable, headerOk, peerOk}
+use Rattle.soundness.specs.Soundness.{usable, headerOk, highSync, peerOk}
 use Rattle.table.specs.declared.Standing.{Standing}
 use Rattle.table.specs.declared.Checked.{Checked}
 use Rattle.table.specs.declared.Entrance.{Entrance}
@@ -48,7 +49,7 @@ encodeTable T = encodeHeader (T .header) ++ octetsOf (T .peers)
 -- ---- slots
 
 abbrev pub slots : Table → ℕ
-slots T = T .header .slots
+slots T = T .header .geometry .slots
 
 -- the record of a slot
 unfoldable pub slot : Table → ℕ → Peer
@@ -72,6 +73,10 @@ usedCount T = countBelow (λ k. inUse (slot T k)) (slots T)
 unfoldable pub openCount : Table → ℕ
 openCount T = countBelow (λ k. isOpen (slot T k)) (slots T)
 
+-- the counts of a table's records; in the third place nothing is counted
+abbrev pub countsOf : Table → Counts
+countsOf T = record { used = usedCount T; opened = openCount T; spare = 0 }
+
 -- the slot of an address
 unfoldable pub finds : Table → List ℕ → Found
 finds T a = firstBelow (λ k. belongs a (slot T k)) (slots T)
@@ -92,7 +97,7 @@ look T a = lookBy T (finds T a)
 
 -- the record of each slot has its form
 unfoldable pub slotsOk : Table → Bool
-slotsOk T = allBelow (λ k. peerOk (T .header .own) (groupsOf (T .header)) (slot T k)) (slots T)
+slotsOk T = allBelow (λ k. peerOk (T .header .own) (groupsOf (T .header)) (highSync (T .header)) (slot T k)) (slots T)
 
 -- no slot before has the address of this one, if it is in use
 unfoldable pub alone : Table → ℕ → Bool
@@ -104,7 +109,10 @@ addressesOk T = allBelow (alone T) (slots T)
 
 -- the header's counts are true
 unfoldable pub countsOk : Table → Bool
-countsOk T = eqb (T .header .used) (usedCount T) && eqb (T .header .opened) (openCount T)
+countsOk T =
+    eqb (T .header .counts .used) (countsOf T .used)
+    && (eqb (T .header .counts .opened) (countsOf T .opened)
+    && eqb (T .header .counts .spare) (countsOf T .spare))
 
 -- "The table's length is 32 + 864 × N."
 unfoldable pub sound : List ℕ → Bool
@@ -131,7 +139,7 @@ entry t a =
 -- ---- a record placed in a slot, the counts made true
 
 unfoldable pub recounted : Table → Table
-recounted T = record { header = counted (T .header) (usedCount T) (openCount T); peers = T .peers }
+recounted T = record { header = counted (T .header) (countsOf T); peers = T .peers }
 
 unfoldable pub withPeer : Table → ℕ → Peer → Table
 withPeer T k p = record { header = T .header; peers = set (T .peers) k p }
@@ -149,8 +157,8 @@ pub record Changed (t : List ℕ) (k : ℕ) (h : Header) (was : Standing) : Type
   pub whole : length t ≡ 32 + size * slots (decodeTable t)
   pub small : slots (decodeTable t) ≤ 64
   pub header : h ≡ decodeTable t .header
-  pub used : decodeTable t .header .used + bit (inUse (slot (decodeTable t) k)) ≡ usedCount (decodeTable t) + bit (was .used)
-  pub opened : decodeTable t .header .opened + bit (isOpen (slot (decodeTable t) k)) ≡ openCount (decodeTable t) + bit (was .opened)
+  pub used : decodeTable t .header .counts .used + bit (inUse (slot (decodeTable t) k)) ≡ usedCount (decodeTable t) + bit (was .used)
+  pub opened : decodeTable t .header .counts .opened + bit (isOpen (slot (decodeTable t) k)) ≡ openCount (decodeTable t) + bit (was .opened)
 
 -- what a change of a slot's record asks of the octets: a slot of a table whose length and counts are right
 pub record Ready (t : List ℕ) (k : ℕ) : Type 0 where
@@ -158,8 +166,7 @@ pub record Ready (t : List ℕ) (k : ℕ) : Type 0 where
   pub whole : length t ≡ 32 + size * slots (decodeTable t)
   pub below : k < slots (decodeTable t)
   pub small : slots (decodeTable t) ≤ 64
-  pub used : decodeTable t .header .used ≡ usedCount (decodeTable t)
-  pub opened : decodeTable t .header .opened ≡ openCount (decodeTable t)
+  pub counts : decodeTable t .header .counts ≡ countsOf (decodeTable t)
 
 -- ---- addresses as numbers
 
@@ -175,10 +182,11 @@ newKey keys k = eqb (getD keys k 0) 0 || allBelow (λ j. not (eqb (getD keys j 0
 pub record Whole (t : List ℕ) (h : Header) (n : ℕ) : Type 0 where
   pub long : 32 + size * n ≤ length t
   pub header : h ≡ decodeTable t .header
-  pub slots : n ≡ decodeTable t .header .slots
+  pub slots : n ≡ slots (decodeTable t)
   pub few : n ≤ 64
-  pub some : 1 ≤ h .count
-  pub most : h .count ≤ 2
+  pub some : 1 ≤ h .settings .count
+  pub most : h .settings .count ≤ 3
+  pub low : highSync h < 256
 
 -- ---- what is loaded once and handed on
 

@@ -9,9 +9,11 @@ ghost use Rattle.octets.specs.Octets.{num};
 ghost use Rattle.octets.specs.Scan.{allBelow, countBelow, firstBelow, lastBelow, bit};
 ghost use Rattle.record.specs.Layout.{encodeHeader};
 ghost use Rattle.soundness.specs.Soundness.{peerOk};
-ghost use Rattle.table.specs.Table.{size, decodeTable, encodeTable, slots, slot, inUse, isOpen, finds, freeSlot, usedCount, openCount, slotsOk, alone, addressesOk, countsOk, sound, entry, recounted, key, newKey, standingOf, Changed, Whole, Headed, Sized, Looked, Checks, Enters};
+ghost use Rattle.table.specs.Table.{size, decodeTable, encodeTable, slots, slot, inUse, isOpen, finds, freeSlot, usedCount, countsOf, slotsOk, alone, addressesOk, countsOk, sound, entry, recounted, key, newKey, standingOf, Changed, Whole, Headed, Sized, Looked, Checks, Enters};
 ghost use Rattle.table.specs.Initial.{slotsFor, lengthOk, initialHeader, initialOk, initial};
 use octets::Found;
+use record::Counts;
+use record::Geometry;
 use record::HEADER;
 use record::Header;
 use record::Peer;
@@ -106,12 +108,6 @@ fn has(t: &[u8], k: usize, x: u64) -> bool
     used & (number == x)
 }
 
-// The two counts of the header.
-pub struct Counts {
-    pub used: u16,
-    pub opened: u16,
-}
-
 // ---- searches and counts below a slot
 
 // The first slot below n in use with the address of the number x.
@@ -145,10 +141,10 @@ fn free_below(t: &[u8], n: usize) -> Found
     Found::Nothing
 }
 
-// The two counts over the slots below n, in one pass.
+// The counts over the slots below n, in one pass.
 fn counts_below(t: &[u8], n: usize) -> Counts
     requires { ⌜ (32 + size * n ≤ length (now t)) × (n ≤ 64) ⌝ }
-    ensures { λ r. ⌜ (r .used ≡ countBelow (λ k. inUse (slot (decodeTable (now (t .entry))) k)) n) × (r .opened ≡ countBelow (λ k. isOpen (slot (decodeTable (now (t .entry))) k)) n) ⌝ }
+    ensures { λ r. ⌜ (r .used ≡ countBelow (λ k. inUse (slot (decodeTable (now (t .entry))) k)) n) × ((r .opened ≡ countBelow (λ k. isOpen (slot (decodeTable (now (t .entry))) k)) n) × (r .spare ≡ 0)) ⌝ }
 {
     let mut used: usize = 0;
     let mut opened: usize = 0;
@@ -161,28 +157,29 @@ fn counts_below(t: &[u8], n: usize) -> Counts
     Counts {
         used: used as u16,
         opened: opened as u16,
+        spare: 0,
     }
 }
 
 // ---- the form of the table
 
-fn slot_ok(t: &[u8], k: usize, own: [u8; 6], groups: &[u16]) -> bool
+fn slot_ok(t: &[u8], k: usize, own: [u8; 6], groups: &[u16], high: u8) -> bool
     requires { ⌜ (32 + size * k + size ≤ length (now t)) × ((1 ≤ length (now groups)) × (length (now groups) ≤ 8)) ⌝ }
-    ensures { λ r. ⌜ r ≡ peerOk own (now (groups .entry)) (slot (decodeTable (now (t .entry))) k) ⌝ }
+    ensures { λ r. ⌜ r ≡ peerOk own (now (groups .entry)) high (slot (decodeTable (now (t .entry))) k) ⌝ }
 {
     let a = HEADER + RECORD * k;
     let e = a + RECORD;
-    soundness::peer_ok(&t[a..e], own, groups)
+    soundness::peer_ok(&t[a..e], own, groups, high)
 }
 
 // Every slot below n has its form: one pass over the records.
-fn slots_ok(t: &[u8], n: usize, own: [u8; 6], groups: &[u16]) -> bool
+fn slots_ok(t: &[u8], n: usize, own: [u8; 6], groups: &[u16], high: u8) -> bool
     requires { ⌜ (32 + size * n ≤ length (now t)) × ((1 ≤ length (now groups)) × (length (now groups) ≤ 8)) ⌝ }
-    ensures { λ r. ⌜ r ≡ allBelow (λ k. peerOk own (now (groups .entry)) (slot (decodeTable (now (t .entry))) k)) n ⌝ }
+    ensures { λ r. ⌜ r ≡ allBelow (λ k. peerOk own (now (groups .entry)) high (slot (decodeTable (now (t .entry))) k)) n ⌝ }
 {
     let mut i = 0;
     while i < n {
-        if slot_ok(t, i, own, groups) {
+        if slot_ok(t, i, own, groups, high) {
             i += 1;
         } else {
             return false;
@@ -275,11 +272,12 @@ fn addresses_ok(t: &[u8], n: usize, used: u16) -> bool
 }
 
 fn counts_ok(t: &[u8], h: Header, n: usize) -> bool
-    requires { ⌜ (32 + size * n ≤ length (now t)) × ((n ≤ 64) × ((h ≡ decodeTable (now t) .header) × (n ≡ decodeTable (now t) .header .slots))) ⌝ }
+    requires { ⌜ (32 + size * n ≤ length (now t)) × ((n ≤ 64) × ((h ≡ decodeTable (now t) .header) × (n ≡ slots (decodeTable (now t))))) ⌝ }
     ensures { λ r. ⌜ r ≡ countsOk (decodeTable (now (t .entry))) ⌝ }
 {
     let counts = counts_below(t, n);
-    (h.used == counts.used) & (h.opened == counts.opened)
+    (h.counts.used == counts.used)
+        & ((h.counts.opened == counts.opened) & (h.counts.spare == counts.spare))
 }
 
 // The slots, their addresses and the counts, under a header of the right form.
@@ -288,10 +286,11 @@ fn body_ok(t: &[u8], h: Header, n: usize) -> bool
     ensures { λ r. ⌜ r ≡ (slotsOk (decodeTable (now (t .entry))) && (addressesOk (decodeTable (now (t .entry))) && countsOk (decodeTable (now (t .entry))))) ⌝ }
 {
     let own = h.own;
-    let gs = h.groups;
-    let m = h.count as usize;
-    let slots = slots_ok(t, n, own, &gs[..m]);
-    let addresses = addresses_ok(t, n, h.used);
+    let gs = h.settings.groups;
+    let m = h.settings.count as usize;
+    let high = record::limit_of(h.settings.limit) + 1;
+    let slots = slots_ok(t, n, own, &gs[..m], high);
+    let addresses = addresses_ok(t, n, h.counts.used);
     let counts = counts_ok(t, h, n);
     slots & (addresses & counts)
 }
@@ -311,7 +310,7 @@ fn is_whole(t: &[u8], h: Header) -> bool
     if !soundness::header_ok(h) {
         return false;
     }
-    let n = h.slots as usize;
+    let n = h.geometry.slots as usize;
     if t.len() != HEADER + RECORD * n {
         return false;
     }
@@ -375,7 +374,7 @@ fn entry_of(t: &[u8], h: Header, a: [u8; 6]) -> Entry
     if !soundness::is_usable(own, a) {
         return Entry::Unusable;
     }
-    match find(t, h.slots as usize, a) {
+    match find(t, h.geometry.slots as usize, a) {
         Found::At(k) => Entry::At(k),
         Found::Nothing => Entry::Absent,
     }
@@ -402,7 +401,7 @@ pub fn enter(t: &[u8], a: [u8; 6]) -> Entrance
 
 // ---- a record changed where it lies
 
-// What a record adds to the two counts.
+// What a record adds to the counts.
 pub struct Standing {
     pub used: bool,
     pub opened: bool,
@@ -433,13 +432,14 @@ fn moved(n: u16, was: bool, is: bool) -> u16
 // The counts with the record that a slot has now, where another one's share was counted before.
 fn counts_after(t: &[u8], k: usize, h: Header, was: Standing) -> Counts
     requires { ⌜ Changed (now t) k h was ⌝ }
-    ensures { λ r. ⌜ (r .used ≡ usedCount (decodeTable (now (t .entry)))) × (r .opened ≡ openCount (decodeTable (now (t .entry)))) ⌝ }
+    ensures { λ r. ⌜ r ≡ countsOf (decodeTable (now (t .entry))) ⌝ }
 {
-    let used = moved(h.used, was.used, is_used(t, k));
-    let opened = moved(h.opened, was.opened, is_open(t, k));
+    let used = moved(h.counts.used, was.used, is_used(t, k));
+    let opened = moved(h.counts.opened, was.opened, is_open(t, k));
     Counts {
         used: used,
         opened: opened,
+        spare: 0,
     }
 }
 
@@ -449,7 +449,7 @@ pub fn recount(t: &mut [u8], k: usize, h: Header, was: Standing)
     ensures { λ _. ⌜ now (t .exit) ≡ encodeTable (recounted (decodeTable (now (t .entry)))) ⌝ }
 {
     let n = counts_after(t, k, h, was);
-    record::set_counts(t, n.used, n.opened);
+    record::set_counts(t, n);
 }
 
 // ---- set up
@@ -484,20 +484,20 @@ fn initial_ok(s: Settings, own: [u8; 6], n: usize) -> bool
 fn initial_header(s: Settings, own: [u8; 6], n: u16) -> Header
     ensures { λ r. ⌜ r ≡ initialHeader s own n ⌝ }
 {
-    let gs = s.groups;
     Header {
-        slots: n,
-        used: 0,
-        opened: 0,
-        size: RECORD as u16,
-        first: HEADER as u16,
-        spare: [0u8; 6],
+        geometry: Geometry {
+            slots: n,
+            size: RECORD as u16,
+            first: HEADER as u16,
+        },
+        counts: Counts {
+            used: 0,
+            opened: 0,
+            spare: 0,
+        },
+        spare: 0,
         own: own,
-        count: s.count,
-        spare1: 0,
-        groups: gs,
-        threshold: s.threshold,
-        spare2: 0,
+        settings: s,
     }
 }
 

@@ -389,8 +389,10 @@ fn run_new(t: &mut [u8]) {
 fn run_only(t: &mut [u8]) {
     let settings = Settings {
         count: 1,
-        groups: [19, 0],
+        groups: [19, 0, 0],
         threshold: 5,
+        period: 0,
+        limit: 0,
     };
     io::write_all(1, b"only");
     print_answer(engine::initialize(t, OWN, settings));

@@ -34,7 +34,7 @@ use Rattle.frame.specs.Writing as writing
 use Rattle.writer.specs.Writer as writer
 use Rattle.agreement.specs.Calls as calls-of
 use Rattle.agreement.specs.Calls.{an-initialize, an-initiate, a-receive, Handed, AllHanded, Call, initialize, initiate, receive, Entry, left, isDone, done, tableAfter, tableOf, stepped, Comes, last, sooner}
-use Rattle.agreement.specs.Story.{Pair, exchanged, unlinked, finished, Story, nothingYet, usesAfresh, usedAfresh, answered, cleared, storyAfter, storyOf, groupsIn}
+use Rattle.agreement.specs.Story.{Pair, exchanged, unlinked, finished, Story, nothingYet, usesAfresh, usedAfresh, answered, cleared, storyAfter, storyOf, groupsIn, limitIn}
 use Rattle.agreement.specs.Story as stories
 use Rattle.agreement.specs.Sent.{drawn, expectedOf, Among, only, first, second, SendsBy, Sent, SentOver}
 use Rattle.agreement.specs.Statement.{Uses, Meets, run, link, Premises, Demand3}
@@ -53,7 +53,7 @@ abbrev pub pair : ℕ → ℕ → Pair
 pair n m = record { group = 19; own = commit n; peer = commit m }
 
 abbrev none : Tally
-none = record { before = 0; after = 0 }
+none = record { before = 0; after = 0; limit = 5 }
 
 -- ---- a call whose outcome is known
 
@@ -65,7 +65,7 @@ data Told : Call → Type 0 where
   a-frame : {a : List ℕ} {t : ℕ} {f r x : List ℕ} {v : ℕ} → Told (receive a t f r x v)
 
 abbrev tellBy : List ℕ → Call → Left → List ℕ → Story → Story
-tellBy t c l b s = if isDone (l .answer .outcome) && sameAddress (l .answer .address) b then answered (groupsIn t) c (l .answer) s else s
+tellBy t c l b s = if isDone (l .answer .outcome) && sameAddress (l .answer .address) b then answered (groupsIn t) (limitIn t) c (l .answer) s else s
 
 story-after : (t : List ℕ) {c : Call} (b : List ℕ) (s : Story) (l : Left) → Told c → left t c ≡ l → storyAfter t c b s ≡ tellBy t c l b s
 unfolding storyAfter done
@@ -277,7 +277,7 @@ unfolding octets.part octets.put octets.num octets.oct octets.allZero octets.sam
     frame.tokenRequestBody frame.groupRefusalBody frame.confirmBody codec.cut codec.glue codec.total layout.runWidths layout.runFields layout.runOf
     layout.encodeRun layout.decodeRun layout.linkWidths layout.linkFields layout.linkOf layout.encodeLink layout.decodeLink layout.peerWidths
     layout.peerFields layout.peerOf layout.encodePeer layout.decodePeer layout.headerWidths layout.frontFields layout.backFields layout.headerFields
-    layout.headerFront layout.headerBack layout.headerOf layout.encodeHeader layout.decodeHeader layout.noRun layout.noLink layout.noPeer
+    layout.headerFront layout.headerBack layout.headerOf layout.encodeHeader layout.decodeHeader layout.noRun layout.noLink layout.noPeer layout.limitOf
     tables.peersOf tables.octetsOf tables.decodeTable tables.encodeTable tables.slot tables.belongs tables.finds tables.lookBy tables.look seen.view
     seen.commitIn seen.message writing.drawCommit writing.drawTokenRequest writing.drawGroupRefusal writing.drawConfirm
     writing.drawCommits writing.drawConfirms writing.partsBody writing.partsRead writing.written writing.leaves writer.draws writer.writesParts

@@ -72,18 +72,11 @@ abbrev pub table : Side → ℕ → ℕ → Peer → List ℕ
 table X used opened p =
     encodeTable (record {
       header = record {
-        slots = 1;
-        used = used;
-        opened = opened;
-        size = 864;
-        first = 32;
-        spare = replicate 6 0;
+        geometry = record { slots = 1; size = 864; first = 32 };
+        counts = record { used = used; opened = opened; spare = 0 };
+        spare = 0;
         own = own X;
-        count = 1;
-        spare1 = 0;
-        groups = 19 ∷ 0 ∷ [];
-        threshold = 5;
-        spare2 = 0;
+        settings = record { count = 1; groups = 19 ∷ 0 ∷ 0 ∷ []; threshold = 5; period = 0; limit = 0 };
       };
       peers = p ∷ [];
     })
@@ -157,16 +150,16 @@ unfolding octets.part octets.put octets.num octets.oct octets.allZero octets.sam
     layout.runFields layout.runOf layout.encodeRun layout.decodeRun layout.linkWidths layout.linkFields layout.linkOf layout.encodeLink
     layout.decodeLink layout.peerWidths layout.peerFields layout.peerOf layout.encodePeer layout.decodePeer layout.headerWidths layout.frontFields
     layout.backFields layout.headerFields layout.headerFront layout.headerBack layout.headerOf layout.encodeHeader layout.decodeHeader layout.noRun
-    layout.noLink layout.noPeer settings-octets.settingsOf settings-octets.reservedZero soundness.ownOk soundness.usable soundness.allKnown soundness.eachOnce soundness.groupsOk soundness.settingsOk
-    soundness.headerOk soundness.commitOk soundness.tokenOk soundness.rejectedOk soundness.committedOk soundness.confirmedOk soundness.runOk
+    layout.noLink layout.noPeer layout.periodOf layout.limitOf settings-octets.settingsOf settings-octets.reservedZero soundness.ownOk soundness.usable
+    soundness.allKnown soundness.eachOnce soundness.groupsOk soundness.settingsOk soundness.geometryOk soundness.headerOk soundness.commitOk soundness.tokenOk soundness.rejectedOk soundness.committedOk soundness.confirmedOk soundness.runOk
     soundness.finishedOk soundness.linkOk soundness.freeOk soundness.inUseOk soundness.peerOk tables.peersOf tables.octetsOf tables.decodeTable
     tables.encodeTable tables.slot tables.belongs tables.usedCount tables.openCount tables.finds tables.freeSlot tables.lookBy tables.look
     tables.slotsOk tables.alone tables.addressesOk tables.countsOk tables.sound tables.foundEntry tables.entry tables.recounted tables.withPeer
-    tables.placed tables.key tables.newKey initial.slotsFor initial.lengthOk initial.initialHeader initial.initialTable initial.initialOk
-    initial.initial book.deadline book.holds book.linkedWith book.startAct book.commitIdle book.commitCommitted book.confirmConfirmed book.commitAct
+    tables.key tables.newKey initial.slotsFor initial.lengthOk initial.initialHeader initial.initialTable initial.initialOk
+    book.deadline book.holds book.linkedWith book.startAct book.commitIdle book.commitCommitted book.confirmConfirmed book.commitAct
     book.confirmAct book.frameAct book.delay book.setT0 book.supersede book.formedRun book.forming book.startedRun book.starting book.linkOfRun
     book.accepting book.answeringCommit book.confirmingCommit book.perform book.onFrame book.onStart seen.view seen.storedToken seen.commitIn
-    seen.message answers.said answers.quiet answers.seating answers.finishAt answers.finishes answers.turned calls.crowded calls.full
+    seen.message answers.said answers.quiet answers.seating answers.ends answers.finishAt answers.finishes answers.turned calls.crowded calls.full
     calls.initializes calls.initializesFrom calls.admitStart calls.startTurn calls.startStep calls.initiates calls.admitFrame calls.frameTurn calls.frameStep calls.receives
 plays =
     record {

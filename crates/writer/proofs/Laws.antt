@@ -3,25 +3,23 @@ use mathlib.Core.Path.{_≡_, refl, sym, ap, _∙_, subst}
 use mathlib.Core.Bool.{Bool, true, false, not}
 use mathlib.Core.List.{List}
 use mathlib.Core.Logic.{⊎-elim}
-use Prim.Native.Nat.{ℕ, _+_, _*_, _≤_, _<_}
+use Prim.Native.Nat.{ℕ, _+_, _*_, _≤_}
 use native.Mathlib.Omega.{arith}
-use lib.Dec.{eqb}
 use lib.ListN.{length, take}
 use lib.Seq.{length-take-le}
-use borrow.Author.Tests.{eqb-true, eq-eqb, ne-eqb, not-true, not-false}
-use Rattle.octets.specs.Scan.{if_then_else_}
+use borrow.Author.Tests.{eqb-true, eq-eqb, ne-eqb, not-true}
 use Rattle.octets.proofs.Scan.{and-left}
 use Rattle.groups.specs.Groups.{commitLength}
-use Rattle.frame.specs.Writing.{Drawn, Outside, drawCommit, drawConfirm, partsBody, written, leaves, Writes}
+use Rattle.frame.specs.Writing.{Drawn, drawCommit, drawConfirm, partsBody, Writes}
 use Rattle.frame.specs.declared.Written.{Written}
 use Rattle.frame.specs.declared.Written.the-variants as written-is
 use Rattle.frame.proofs.Laws.{outside, drawn}
 use Rattle.record.specs.declared.Header.{Header}
 use Rattle.record.specs.declared.Peer.{Peer}
 use Rattle.record.specs.Layout.{groupsOf, decodeHeader, headerOf}
-use Rattle.soundness.specs.Soundness.{peerOk, headerOk}
-use Rattle.soundness.proofs.Laws.{header-form, groups-form, InUse, peer-in-use, run-states, run-is-committed, run-is-confirmed}
-use Rattle.table.specs.Table.{Table, decodeTable, size, slot, slots, sound, entry, finds, belongs}
+use Rattle.soundness.specs.Soundness.{highSync}
+use Rattle.soundness.proofs.Laws.{header-form, settings-form, groups-form, InUse, peer-in-use, run-states, run-is-committed, run-is-confirmed}
+use Rattle.table.specs.Table.{decodeTable, size, slot, sound, entry, belongs}
 use Rattle.table.specs.declared.Entry.{Entry}
 use Rattle.table.specs.declared.Entry.the-variants.{Unsound, Unusable, Absent, At}
 use Rattle.table.proofs.Laws.{sound-by, sound-long, sound-header, sound-peer, entry-at, entry-ready, found-below}
@@ -42,22 +40,22 @@ drawn-out d given left w r l q = record { answer = q ∙ ap wroteOf (l .answers)
 
 -- ---- the header of a sound table
 
-two-groups : (t : List ℕ) → length (decodeTable t .header .groups) ≡ 2
+three-groups : (t : List ℕ) → length (decodeTable t .header .settings .groups) ≡ 3
 unfolding decodeTable decodeHeader headerOf
-two-groups t = refl
+three-groups t = refl
 
 module _ (t : List ℕ) (s : sound t ≡ true) (h : Header) (e : h ≡ decodeTable t .header) where
-  pub few : h .count ≤ 2
-  few = rw e (groups-form _ _ (header-form _ (sound-header t s) .groups) .few)
+  pub few : h .settings .count ≤ 2
+  few = rw e (groups-form _ _ (settings-form _ (header-form _ (sound-header t s) .settings) .groups) .few)
 
-  two : length (h .groups) ≡ 2
-  two = ap (λ (x : Header). length (x .groups)) e ∙ two-groups t
+  three : length (h .settings .groups) ≡ 3
+  three = ap (λ (x : Header). length (x .settings .groups)) e ∙ three-groups t
 
-  pub share : h .count ≤ length (h .groups)
-  share = let f = few in let w = two in omega arith
+  pub share : h .settings .count ≤ length (h .settings .groups)
+  share = let f = few in let w = three in omega arith
 
-  pub listed-are : h .count ≡ length (take (h .count) (h .groups))
-  listed-are = sym (length-take-le (h .count) (h .groups) share)
+  pub listed-are : h .settings .count ≡ length (take (h .settings .count) (h .settings .groups))
+  listed-are = sym (length-take-le (h .settings .count) (h .settings .groups) share)
 
 -- ---- from a frame's parts
 
@@ -119,18 +117,18 @@ module _ (gs : List ℕ) (p : Peer) (q : ℕ) (value out : List ℕ) where
 -- ---- from a record: the call
 
 -- the record of an address in a sound table
-pub in-use-at : (t a : List ℕ) (k : ℕ) → entry t a ≡ At k → InUse (decodeTable t .header .own) (groupsOf (decodeTable t .header)) (slot (decodeTable t) k)
+pub in-use-at : (t a : List ℕ) (k : ℕ) → entry t a ≡ At k → InUse (decodeTable t .header .own) (groupsOf (decodeTable t .header)) (highSync (decodeTable t .header)) (slot (decodeTable t) k)
 unfolding belongs
 in-use-at t a k e =
     let w = entry-at t a k e in
     let f = found-below (decodeTable t) a k (w .1 .1) in
     let u : slot (decodeTable t) k .used ≡ 1 = eqb-true _ _ (and-left _ _ (f .1)) in
-    peer-in-use _ _ _ (λ z. omega arith) (sound-peer t (w .0) k (f .0))
+    peer-in-use _ _ _ _ (λ z. omega arith) (sound-peer t (w .0) k (f .0))
 
-pub short-token : (own gs : List ℕ) (p : Peer) → InUse own gs p → (p .run .state ≡ 0 → ⊥) → p .run .toklen ≤ 256
-short-token own gs p u d =
-    ⊎-elim (λ z. absurd (d z)) (λ y. ⊎-elim (λ z. run-is-committed gs (p .run) z (u .run) .token .short) (λ z. run-is-confirmed gs (p .run) z (u .run) .token .short) y)
-    (run-states gs (p .run) (u .run))
+pub short-token : (own gs : List ℕ) (high : ℕ) (p : Peer) → InUse own gs high p → (p .run .state ≡ 0 → ⊥) → p .run .toklen ≤ 256
+short-token own gs high p u d =
+    ⊎-elim (λ z. absurd (d z)) (λ y. ⊎-elim (λ z. run-is-committed gs high (p .run) z (u .run) .token .short) (λ z. run-is-confirmed gs high (p .run) z (u .run) .token .short) y)
+    (run-states gs high (p .run) (u .run))
 
 module _ (t a : List ℕ) (e : Entry) (m : e ≡ entry t a) where
   pub record-refused : (x : Entry) (c : Refusal) (q : ℕ) (value out : List ℕ) → e ≡ x → ((y : Entry) → y ≡ x → writesRecordBy y t q value out ≡ refuseOut out c)
@@ -166,7 +164,7 @@ module _ (t a : List ℕ) (e : Entry) (m : e ≡ entry t a) where
 
     pub at-bounded : (p : Peer) → p ≡ slot (decodeTable t) k → Bounded p
     at-bounded p ep =
-        record { token = subst (λ (x : Peer). (x .run .state ≡ 0 → ⊥) → x .run .toklen ≤ 256) (sym ep) (short-token _ _ _ (in-use-at t a k here)) }
+        record { token = subst (λ (x : Peer). (x .run .state ≡ 0 → ⊥) → x .run .toklen ≤ 256) (sym ep) (short-token _ _ _ _ (in-use-at t a k here)) }
 
     pub record-drawn : (h : Header) (p : Peer) (q : ℕ) (value out left : List ℕ) (w : Written) (r : Wrote) → h ≡ decodeTable t .header → p ≡ slot (decodeTable t) k
         → Writes (recordBody (groupsOf h) p q value) out left w → r ≡ wroteOf w → LeavesOut r left (writesRecord t a q value out)

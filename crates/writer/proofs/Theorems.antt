@@ -1,23 +1,22 @@
 -- What holds of every call of the writer: a refusal leaves the buffer, each cause has its number and its place in the order, and what a record has is
 -- written and reads back.
-use mathlib.Core.Path.{_≡_, refl, sym, ap, _∙_, subst}
-use mathlib.Core.Bool.{Bool, true, false, not, _||_}
+use mathlib.Core.Path.{_≡_, refl, sym, ap, _∙_}
+use mathlib.Core.Bool.{Bool, true, false, not}
 use mathlib.Core.List.{List, []}
 use mathlib.Core.Logic.{inl, inr}
 use Prim.Native.Nat.{ℕ, _+_, _*_, _≤_, _<_}
 use native.Mathlib.Omega.{arith}
-use lib.Dec.{eqb, ltb, lit<}
+use lib.Dec.{ltb}
 use lib.ListN.{length, take}
 use lib.Seq.{length-take-le}
-use borrow.Author.Tests.{lt-ltb, le-ltb, eq-eqb, ne-eqb, ltb-true, ltb-false}
+use borrow.Author.Tests.{le-ltb, eq-eqb, ne-eqb, ltb-true, ltb-false}
 use Rattle.octets.specs.Octets.{put, Bytes}
 use Rattle.octets.specs.Scan.{if_then_else_}
 use Rattle.octets.specs.declared.Found.{Found}
 use Rattle.octets.specs.declared.Found.the-variants as found
-use Rattle.octets.proofs.Scan.{cases}
 use Rattle.groups.specs.Groups.{width, commitLength, listed}
 use Rattle.groups.proofs.Laws.{commit-fits}
-use Rattle.frame.specs.Frame.{readBody, tokenOf, commitOf, valueOf, body, commitBody, confirmBody}
+use Rattle.frame.specs.Frame.{readBody, tokenOf, commitOf, valueOf, commitBody, confirmBody}
 use Rattle.frame.specs.declared.Body.the-variants as body-is
 use Rattle.frame.specs.Writing.{Drawn, Octets, Outside, drawCommit, drawConfirm, partsBody, written, leaves}
 use Rattle.frame.proofs.Laws.{length-body}
@@ -25,16 +24,14 @@ use Rattle.frame.proofs.RoundTrip.{commit-reads, commit-token-back, commit-back
 use Rattle.record.specs.declared.Peer.{Peer}
 use Rattle.record.specs.Layout.{groupsOf}
 use Rattle.record.proofs.Laws.{FitPeer}
-use Rattle.soundness.specs.Soundness.{usable}
-use Rattle.soundness.proofs.Laws.{InUse, Token, run-states, run-is-committed, run-is-confirmed}
-use Rattle.table.specs.Table.{Table, decodeTable, size, slot, slots, sound, entry, foundEntry, finds}
-use Rattle.table.specs.declared.Entry.{Entry}
-use Rattle.table.specs.declared.Entry.the-variants.{Unsound, Unusable, Absent, At}
+use Rattle.soundness.specs.Soundness.{usable, highSync}
+use Rattle.soundness.proofs.Laws.{InUse, run-states, run-is-committed, run-is-confirmed}
+use Rattle.table.specs.Table.{decodeTable, size, slot, slots, sound, entry, foundEntry, finds}
+use Rattle.table.specs.declared.Entry.the-variants.{Unsound, Unusable, At}
 use Rattle.table.proofs.Laws.{sound-whole, peers-held, entry-at, found-below}
 use Rattle.table.proofs.Fit.{fit-decoded, fit-slot}
 use Rattle.answers.specs.declared.Refusal.{Refusal}
 use Rattle.answers.specs.declared.Refusal.the-variants as why
-use Rattle.writer.specs.declared.Wrote.{Wrote}
 use Rattle.writer.specs.declared.Wrote.the-variants as wrote
 use Rattle.writer.specs.Writer.{LeftOut, refuseOut, draws, writesParts, recordCommit, recordConfirm, recordBody, writesRecordBy, writesRecord}
 use Rattle.writer.proofs.Laws.{in-use-at}
@@ -144,7 +141,7 @@ module _ (t a : List ℕ) (k : ℕ) (e : entry t a ≡ At k) where
   abbrev pub list : List ℕ
   list = groupsOf (decodeTable t .header)
 
-  in-use : InUse (decodeTable t .header .own) list here
+  in-use : InUse (decodeTable t .header .own) list (highSync (decodeTable t .header)) here
   in-use = in-use-at t a k e
 
   module _ (q : ℕ) (value out s : List ℕ) where
@@ -170,11 +167,11 @@ module _ (t a : List ℕ) (k : ℕ) (e : entry t a ≡ At k) where
     own = take (commitLength (here .run .group)) (here .run .own)
 
     supported : (listed list (here .run .group) ≡ true) × (here .run .toklen ≤ 256)
-    supported = elim (run-states list (here .run) (in-use .run)) [
+    supported = elim (run-states list (highSync (decodeTable t .header)) (here .run) (in-use .run)) [
       | inl z ↦ absurd (run z)
       | inr y ↦ elim y [
-        | inl z ↦ let w = run-is-committed list (here .run) z (in-use .run) in (w .listed, w .token .short)
-        | inr z ↦ let w = run-is-confirmed list (here .run) z (in-use .run) in (w .listed, w .token .short)
+        | inl z ↦ let w = run-is-committed list (highSync (decodeTable t .header)) (here .run) z (in-use .run) in (w .listed, w .token .short)
+        | inr z ↦ let w = run-is-confirmed list (highSync (decodeTable t .header)) (here .run) z (in-use .run) in (w .listed, w .token .short)
       ]
     ]
 

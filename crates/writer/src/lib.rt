@@ -42,8 +42,8 @@ pub fn write_parts(
         return Wrote::Refused(Refusal::Unsound);
     }
     let h = c.header;
-    let list = h.groups;
-    let n = h.count as usize;
+    let list = h.settings.groups;
+    let n = h.settings.count as usize;
     let w = frame::write_parts(
         &list[..n],
         sequence,
@@ -123,8 +123,8 @@ pub fn write_record(
         Entry::Unusable => Wrote::Refused(Refusal::Address),
         Entry::Absent => Wrote::Refused(Refusal::Body),
         Entry::At(k) => {
-            let list = h.groups;
-            let n = h.count as usize;
+            let list = h.settings.groups;
+            let n = h.settings.count as usize;
             let p = table::load_peer(t, k);
             let w = write_peer(&list[..n], p, sequence, value, out);
             wrote_of(w)

@@ -6,17 +6,17 @@ use borrow.Author.Needs.{needs}
 use Rattle.engine.proofs.admit_frame.Statement.{statement}
 use Rattle.engine.proofs.admit_frame.Tie as tie
 
-two : (c : tie.Start) → length (c .args .h .groups) ≡ 2
-two c = search needs
+three : (c : tie.Start) → length (c .args .h .settings .groups) ≡ 3
+three c = search needs
 
 cast-n : tie.Need-cast-n
 cast-n c = search needs
 
 array-share-prefix-list : tie.Need-array-share-prefix-list
-array-share-prefix-list c = let k = c .before .before .before .before .before in count-fits (k .args .h) (k .pre) (two k)
+array-share-prefix-list c = let k = c .before .before .before .before .before in count-fits (k .args .h) (k .pre) (three k)
 
 slice-aggregate-fresh-ok : tie.Need-slice-aggregate-fresh-ok
-slice-aggregate-fresh-ok c = let k = c .before .before .before .before .before .before in listed-count (k .args .h) (k .pre) (two k)
+slice-aggregate-fresh-ok c = let k = c .before .before .before .before .before .before in listed-count (k .args .h) (k .pre) (three k)
 
 fresh-ok-requires : tie.Need-fresh-ok-requires
 fresh-ok-requires c κs = search needs
@@ -40,10 +40,10 @@ returns-3 : tie.Need-returns-3
 returns-3 c = frame-verdict _ _ _ _ _ _ _ (c .before .before .before .before .fresh-ok .ensures) _ (c .before .before .before .if1 .left) (c .before .before .if2 .left) (c .before .if3 .taken) (c .refuse-frame3 .ensures)
 
 array-share-prefix-list-2 : tie.Need-array-share-prefix-list-2
-array-share-prefix-list-2 c = let k = c .before .before .before .before .before .before .before .before .before .before in count-fits (k .args .h) (k .pre) (two k)
+array-share-prefix-list-2 c = let k = c .before .before .before .before .before .before .before .before .before .before in count-fits (k .args .h) (k .pre) (three k)
 
 slice-aggregate-read : tie.Need-slice-aggregate-read
-slice-aggregate-read c = let k = c .before .before .before .before .before .before .before .before .before .before .before in listed-count (k .args .h) (k .pre) (two k)
+slice-aggregate-read c = let k = c .before .before .before .before .before .before .before .before .before .before .before in listed-count (k .args .h) (k .pre) (three k)
 
 read-requires : tie.Need-read-requires
 read-requires c κs = search needs

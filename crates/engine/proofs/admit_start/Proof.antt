@@ -6,17 +6,17 @@ use borrow.Author.Needs.{needs}
 use Rattle.engine.proofs.admit_start.Statement.{statement}
 use Rattle.engine.proofs.admit_start.Tie as tie
 
-two : (c : tie.Start) → length (c .args .h .groups) ≡ 2
-two c = search needs
+three : (c : tie.Start) → length (c .args .h .settings .groups) ≡ 3
+three c = search needs
 
 cast-n : tie.Need-cast-n
 cast-n c = search needs
 
 array-share-prefix-list : tie.Need-array-share-prefix-list
-array-share-prefix-list c = let k = c .before .before .before .before in count-fits (k .args .h) (held-header _ _ _ (k .pre)) (two k)
+array-share-prefix-list c = let k = c .before .before .before .before in count-fits (k .args .h) (held-header _ _ _ (k .pre)) (three k)
 
 slice-aggregate-fresh-ok : tie.Need-slice-aggregate-fresh-ok
-slice-aggregate-fresh-ok c = let k = c .before .before .before .before .before in listed-count (k .args .h) (held-header _ _ _ (k .pre)) (two k)
+slice-aggregate-fresh-ok c = let k = c .before .before .before .before .before in listed-count (k .args .h) (held-header _ _ _ (k .pre)) (three k)
 
 fresh-ok-requires : tie.Need-fresh-ok-requires
 fresh-ok-requires c κs = search needs

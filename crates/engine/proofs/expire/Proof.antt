@@ -1,3 +1,4 @@
+use native.Mathlib.Omega.{arith}
 use Rattle.table.proofs.Laws.{looked-sized}
 use Rattle.engine.proofs.Clocks.{expire-unsound, expire-none, expire-held, expire-at}
 use borrow.Author.Needs.{needs}
@@ -38,7 +39,7 @@ same-length-2 : tie.Need-same-length-2
 same-length-2 c = search needs
 
 returns-2 : tie.Need-returns-2
-returns-2 c = expire-none _ _ _ (c .before .before .before .before .before .before .before .before .check .result .header) (c .before .before .before .before .before .before .before .before .check .ensures) (c .before .before .before .before .before .before .before .if1 .left) _ (c .before .before .before .due-slot .ensures) _ (c .before .enum-told .given .1) (c .none-due .ensures)
+returns-2 c = expire-none _ _ _ (c .before .before .before .before .before .before .before .before .check .result .header) (c .before .before .before .before .before .before .before .before .check .ensures) (c .before .before .before .before .before .before .before .if1 .left) _ (c .before .before .before .due-slot .ensures) _ (λ i. omega (arith, c .before .before .before .before .before .before .before .before .before .before .slice-known .given i)) (c .before .enum-told .given .1) (c .none-due .ensures)
 
 same-length-3 : tie.Need-same-length-3
 same-length-3 c = search needs

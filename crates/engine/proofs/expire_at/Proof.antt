@@ -11,20 +11,20 @@ use borrow.Author.Needs.{needs}
 use Rattle.engine.proofs.expire_at.Statement.{statement}
 use Rattle.engine.proofs.expire_at.Tie as tie
 
-two : (c : tie.Start) → length (c .args .h .groups) ≡ 2
-two c = search needs
+three : (c : tie.Start) → length (c .args .h .settings .groups) ≡ 3
+three c = search needs
 
 cast-n : tie.Need-cast-n
 cast-n c = search needs
 
 mul-a : tie.Need-mul-a
-mul-a c = let k = c .before .before .before in omega (arith, held-ready _ (k .args .h) _ (k .pre) .fits)
+mul-a c = let k = c .before .before .before in omega (arith, held-ready _ (k .args .h) _ (k .pre .0) .fits)
 
 add-a : tie.Need-add-a
-add-a c = let k = c .before .before .before in omega (arith, held-ready _ (k .args .h) _ (k .pre) .fits)
+add-a c = let k = c .before .before .before in omega (arith, held-ready _ (k .args .h) _ (k .pre .0) .fits)
 
 add-e : tie.Need-add-e
-add-e c = let k = c .before .before .before in omega (arith, held-ready _ (k .args .h) _ (k .pre) .fits)
+add-e c = let k = c .before .before .before in omega (arith, held-ready _ (k .args .h) _ (k .pre .0) .fits)
 
 sub-on-clock : tie.Need-sub-on-clock
 sub-on-clock c = search needs
@@ -33,22 +33,22 @@ part-on-clock-start : tie.Need-part-on-clock-start
 part-on-clock-start c = search needs
 
 part-on-clock-end : tie.Need-part-on-clock-end
-part-on-clock-end c = let k = c .before .before .before in omega (arith, held-ready _ (k .args .h) _ (k .pre) .fits)
+part-on-clock-end c = let k = c .before .before .before in omega (arith, held-ready _ (k .args .h) _ (k .pre .0) .fits)
 
 array-share-prefix-list : tie.Need-array-share-prefix-list
-array-share-prefix-list c = let k = c .before .before .before .before in count-fits (k .args .h) (held-header _ _ _ (k .pre)) (two k)
+array-share-prefix-list c = let k = c .before .before .before .before in count-fits (k .args .h) (held-header _ _ _ (k .pre .0)) (three k)
 
 slice-aggregate-on-clock : tie.Need-slice-aggregate-on-clock
-slice-aggregate-on-clock c = let k = c .before .before .before .before .before in listed-count (k .args .h) (held-header _ _ _ (k .pre)) (two k)
+slice-aggregate-on-clock c = let k = c .before .before .before .before .before in listed-count (k .args .h) (held-header _ _ _ (k .pre .0)) (three k)
 
 on-clock-requires : tie.Need-on-clock-requires
-on-clock-requires c κs = let k = c .before .before .before .before .before in window-whole _ (k .args .h) _ (k .pre) (λ i. omega (arith, c .before .before .before .before .slice-known .given i))
+on-clock-requires c κs = let k = c .before .before .before .before .before in window-whole _ (k .args .h) _ (k .pre .0) (k .args .g .clock) (λ i. omega (arith, c .before .before .before .before .slice-known .given i)) (k .pre .1)
 
 same-length : tie.Need-same-length
 same-length c = search needs
 
 returns : tie.Need-returns
-returns c = let k = c .before .before .before .before .before .before .before .before in at-step (k .args .t .now) (k .args .h) (k .args .k) (k .pre) (onClock (terms (k .args .g) (groupsOf (k .args .h))) (call (k .args .g) [])) _ _ (search needs) (c .before .before .on-clock .ensures)
+returns c = let k = c .before .before .before .before .before .before .before .before in at-step (k .args .t .now) (k .args .h) (k .args .k) (k .pre .0) (onClock (terms (k .args .g) (groupsOf (k .args .h))) (call (k .args .g) [])) _ _ (search needs) (c .before .before .on-clock .ensures)
 
 pub expire-at-spec : {M : Type 1} → statement M
 expire-at-spec =

@@ -1,6 +1,4 @@
 use Rattle.message.specs.View.{messageOf}
-use mathlib.Core.Path.{_≡_}
-use lib.ListN.{length}
 use native.Mathlib.Omega.{arith}
 use Rattle.record.specs.declared.Peer.{Peer}
 use Rattle.record.specs.Layout.{groupsOf}
@@ -11,9 +9,6 @@ use Rattle.engine.proofs.Windows.{at-step}
 use borrow.Author.Needs.{needs}
 use Rattle.engine.proofs.frame_at.Statement.{statement}
 use Rattle.engine.proofs.frame_at.Tie as tie
-
-two : (c : tie.Start) → length (c .args .h .groups) ≡ 2
-two c = search needs
 
 cast-n : tie.Need-cast-n
 cast-n c = search needs
@@ -37,13 +32,13 @@ part-on-frame-end : tie.Need-part-on-frame-end
 part-on-frame-end c = let k = c .before .before .before .before .before in omega (arith, held-ready _ (k .args .h) _ (k .pre .0) .fits)
 
 array-share-prefix-list : tie.Need-array-share-prefix-list
-array-share-prefix-list c = let k = c .before .before .before .before .before .before in count-fits (k .args .h) (held-header _ _ _ (k .pre .0)) (two k)
+array-share-prefix-list c = let k = c .before .before .before .before .before .before in count-fits (k .args .h) (held-header _ _ _ (k .pre .0)) (k .pre .1 .0 .places)
 
 slice-aggregate-on-frame : tie.Need-slice-aggregate-on-frame
-slice-aggregate-on-frame c = let k = c .before .before .before .before .before .before .before in listed-count (k .args .h) (held-header _ _ _ (k .pre .0)) (two k)
+slice-aggregate-on-frame c = let k = c .before .before .before .before .before .before .before in listed-count (k .args .h) (held-header _ _ _ (k .pre .0)) (k .pre .1 .0 .places)
 
 on-frame-requires : tie.Need-on-frame-requires
-on-frame-requires c κs = let k = c .before .before .before .before .before .before .before in ready _ (k .args .h) _ (messageOf (k .args .body .now) (k .args .v)) (window-whole _ (k .args .h) _ (k .pre .0) (λ i. omega (arith, c .before .before .before .before .before .before .slice-known .given i))) (k .pre .1 .0) (two k) (k .pre .1 .1)
+on-frame-requires c κs = let k = c .before .before .before .before .before .before .before in ready (k .args .g .clock) _ (k .args .h) _ (messageOf (k .args .body .now) (k .args .v)) (window-whole _ (k .args .h) _ (k .pre .0) (k .args .g .clock) (λ i. omega (arith, c .before .before .before .before .before .before .slice-known .given i)) (k .pre .1 .1 .0)) (k .pre .1 .0) (k .pre .1 .1 .1)
 
 same-length : tie.Need-same-length
 same-length c = search needs

@@ -3,6 +3,7 @@ use mathlib.Core.Path.{sym, _∙_}
 use Rattle.message.specs.View.{messageOf}
 use Rattle.engine.proofs.Headers.{held-sized, held-at, held-ready}
 use Rattle.engine.proofs.Windows.{slot-changed}
+use Rattle.engine.proofs.Starts.{slotless-clocked}
 use Rattle.engine.proofs.Frames.{hear-seated, hear-unseated}
 use borrow.Author.Needs.{needs}
 use Rattle.engine.proofs.hear.Statement.{statement}
@@ -21,7 +22,7 @@ standing-of-requires : tie.Need-standing-of-requires
 standing-of-requires c κs = let k = c .before .before .before .before .before .before .before .before .before .before in held-ready _ (k .args .h) _ (held-at _ (k .args .h) _ _ (k .pre .0) (sym (c .before .before .before .before .seat-of .ensures) ∙ c .before .before .k .given .1)) .fits
 
 frame-at-requires : tie.Need-frame-at-requires
-frame-at-requires c κs = let k = c .before .before .before .before .before .before .before .before .before .before .before .before in (held-at _ (k .args .h) _ _ (k .pre .0) (sym (c .before .before .before .before .before .before .seat-of .ensures) ∙ c .before .before .before .before .k .given .1), (k .pre .1 .0, k .pre .1 .1 .1))
+frame-at-requires c κs = let k = c .before .before .before .before .before .before .before .before .before .before .before .before in (held-at _ (k .args .h) _ _ (k .pre .0) (sym (c .before .before .before .before .before .before .seat-of .ensures) ∙ c .before .before .before .before .k .given .1), (k .pre .1 .0, (k .pre .1 .1 .0 .clock, k .pre .1 .1 .1)))
 
 finish-at-requires : tie.Need-finish-at-requires
 finish-at-requires c κs = let k = c .before .before .before .before .before .before .before .before .before .before .before .before .before .before .before .before .before in slot-changed _ (k .args .h) _ (held-at _ (k .args .h) _ _ (k .pre .0) (sym (c .before .before .before .before .before .before .before .before .before .before .before .seat-of .ensures) ∙ c .before .before .before .before .before .before .before .before .before .k .given .1)) _ _ _ _ (search needs) (c .before .before .before .before .frame-at .ensures) (c .before .before .before .before .before .before .standing-of .ensures)
@@ -33,7 +34,7 @@ without-slot-requires : tie.Need-without-slot-requires
 without-slot-requires c κs = search needs
 
 hear-outside-requires : tie.Need-hear-outside-requires
-hear-outside-requires c κs = search needs
+hear-outside-requires c κs = let k = c .before .before .before .before .before .before .before .before .before in (k .pre .1 .0, (slotless-clocked (k .args .h) (k .args .g) _ (k .pre .1 .1 .0) (c .without-slot .ensures), k .pre .1 .1 .1))
 
 same-length : tie.Need-same-length
 same-length c = search needs
@@ -45,7 +46,7 @@ same-length-2 : tie.Need-same-length-2
 same-length-2 c = search needs
 
 returns-2 : tie.Need-returns-2
-returns-2 c = let k = c .before .before .before .before .before .before .before .before .before .before in hear-unseated (k .args .t .now) (k .args .h) (k .args .f) (k .pre .0) (k .args .g) (k .pre .1 .1 .0) (messageOf (k .args .body .now) (k .args .v)) (k .args .fresh .now) _ _ _ (c .before .before .before .before .seat-of .ensures) (c .before .before .enum-told .given .1) (c .before .without-slot .ensures) (c .hear-outside .ensures)
+returns-2 c = let k = c .before .before .before .before .before .before .before .before .before .before in hear-unseated (k .args .t .now) (k .args .h) (k .args .f) (k .pre .0) (k .args .g) (k .pre .1 .1 .0) (messageOf (k .args .body .now) (k .args .v)) (k .args .fresh .now) _ _ _ (λ i. omega (arith, c .before .before .before .before .before .before .before .before .before .slice-known .given i)) (c .before .before .before .before .seat-of .ensures) (c .before .before .enum-told .given .1) (c .before .without-slot .ensures) (c .hear-outside .ensures)
 
 pub hear-spec : {M : Type 1} → statement M
 hear-spec =

@@ -1,15 +1,11 @@
 use Rattle.message.specs.View.{messageOf}
-use mathlib.Core.Path.{_≡_, refl}
-use lib.ListN.{length}
+use mathlib.Core.Path.{refl}
 use Rattle.record.proofs.Windows.{no-peer-left}
-use Rattle.engine.proofs.Headers.{count-fits, listed-count, blank-whole, ready}
+use Rattle.engine.proofs.Headers.{count-fits, listed-count, paced, blank-whole, ready}
 use Rattle.engine.proofs.Frames.{outside-refused, outside-said, outside-says}
 use borrow.Author.Needs.{needs}
 use Rattle.engine.proofs.hear_outside.Statement.{statement}
 use Rattle.engine.proofs.hear_outside.Tie as tie
-
-two : (c : tie.Start) → length (c .args .h .groups) ≡ 2
-two c = search needs
 
 cast-n : tie.Need-cast-n
 cast-n c = search needs
@@ -18,13 +14,13 @@ slice-aggregate-on-frame : tie.Need-slice-aggregate-on-frame
 slice-aggregate-on-frame c = search needs
 
 array-share-prefix-list : tie.Need-array-share-prefix-list
-array-share-prefix-list c = let k = c .before .before .before .before .before .before in count-fits (k .args .h) (k .pre .0 .header) (two k)
+array-share-prefix-list c = let k = c .before .before .before .before .before .before in count-fits (k .args .h) (k .pre .0 .header) (k .pre .0 .places)
 
 slice-aggregate-on-frame-2 : tie.Need-slice-aggregate-on-frame-2
-slice-aggregate-on-frame-2 c = let k = c .before .before .before .before .before .before .before in listed-count (k .args .h) (k .pre .0 .header) (two k)
+slice-aggregate-on-frame-2 c = let k = c .before .before .before .before .before .before .before in listed-count (k .args .h) (k .pre .0 .header) (k .pre .0 .places)
 
 on-frame-requires : tie.Need-on-frame-requires
-on-frame-requires c κs = let k = c .before .before .before .before .before .before .before in ready _ (k .args .h) _ (messageOf (k .args .body .now) (k .args .v)) (blank-whole _ (search needs) (no-peer-left 864 refl)) (k .pre .0) (two k) (k .pre .1)
+on-frame-requires c κs = let k = c .before .before .before .before .before .before .before in ready (k .args .g .clock) _ (k .args .h) _ (messageOf (k .args .body .now) (k .args .v)) (blank-whole (k .args .g .clock) _ (paced (k .args .g .clock) (k .args .h) (k .pre .0 .header) (k .pre .1 .0)) (search needs) (no-peer-left 864 refl)) (k .pre .0) (k .pre .1 .1)
 
 refuse-with-requires : tie.Need-refuse-with-requires
 refuse-with-requires c κs = search needs

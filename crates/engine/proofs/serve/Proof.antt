@@ -1,5 +1,6 @@
 use Rattle.engine.proofs.Headers.{held-ready}
 use Rattle.engine.proofs.Windows.{slot-changed}
+use Rattle.engine.proofs.Starts.{given-clocked}
 use Rattle.engine.proofs.Clocks.{served}
 use borrow.Author.Needs.{needs}
 use Rattle.engine.proofs.serve.Statement.{statement}
@@ -15,7 +16,7 @@ given-of-requires : tie.Need-given-of-requires
 given-of-requires c κs = search needs
 
 expire-at-requires : tie.Need-expire-at-requires
-expire-at-requires c κs = search needs
+expire-at-requires c κs = let k = c .before .before .before .before .before .before .before in (k .pre, given-clocked (k .args .h) _ _ _ _ _ (c .before .given-of .ensures))
 
 finish-at-requires : tie.Need-finish-at-requires
 finish-at-requires c κs = let k = c .before .before .before .before .before .before .before .before .before .before .before in slot-changed _ (k .args .h) _ (k .pre) _ _ _ _ (search needs) (c .before .before .before .expire-at .ensures) (c .before .before .before .before .before .before .standing-of .ensures)

@@ -2,7 +2,7 @@ use native.Mathlib.Omega.{arith}
 use mathlib.Core.Path.{sym, _∙_}
 use Rattle.engine.proofs.Headers.{held-sized, held-at, held-ready}
 use Rattle.engine.proofs.Windows.{slot-changed}
-use Rattle.engine.proofs.Starts.{started, start-full}
+use Rattle.engine.proofs.Starts.{given-clocked, started, start-full}
 use borrow.Author.Needs.{needs}
 use Rattle.engine.proofs.start.Statement.{statement}
 use Rattle.engine.proofs.start.Tie as tie
@@ -23,7 +23,7 @@ given-of-requires : tie.Need-given-of-requires
 given-of-requires c κs = search needs
 
 start-at-requires : tie.Need-start-at-requires
-start-at-requires c κs = let k = c .before .before .before .before .before .before .before .before .before .before .before .before in (held-at _ (k .args .h) _ _ (k .pre .0) (sym (c .before .before .before .before .before .before .before .seat-of .ensures) ∙ c .before .before .before .before .before .k .given .1), k .pre .1)
+start-at-requires c κs = let k = c .before .before .before .before .before .before .before .before .before .before .before .before in (held-at _ (k .args .h) _ _ (k .pre .0) (sym (c .before .before .before .before .before .before .before .seat-of .ensures) ∙ c .before .before .before .before .before .k .given .1), (k .pre .1, given-clocked (k .args .h) _ _ _ _ _ (c .before .given-of .ensures)))
 
 finish-at-requires : tie.Need-finish-at-requires
 finish-at-requires c κs = let k = c .before .before .before .before .before .before .before .before .before .before .before .before .before .before .before .before in slot-changed _ (k .args .h) _ (held-at _ (k .args .h) _ _ (k .pre .0) (sym (c .before .before .before .before .before .before .before .before .before .before .before .seat-of .ensures) ∙ c .before .before .before .before .before .before .before .before .before .k .given .1)) _ _ _ _ (search needs) (c .before .before .before .start-at .ensures) (c .before .before .before .before .before .before .standing-of .ensures)

@@ -1,5 +1,3 @@
-use mathlib.Core.Path.{_≡_}
-use lib.ListN.{length}
 use native.Mathlib.Omega.{arith}
 use Rattle.record.specs.Layout.{groupsOf}
 use Rattle.rules.specs.Book.{onStart}
@@ -9,9 +7,6 @@ use Rattle.engine.proofs.Windows.{at-step}
 use borrow.Author.Needs.{needs}
 use Rattle.engine.proofs.start_at.Statement.{statement}
 use Rattle.engine.proofs.start_at.Tie as tie
-
-two : (c : tie.Start) → length (c .args .h .groups) ≡ 2
-two c = search needs
 
 cast-n : tie.Need-cast-n
 cast-n c = search needs
@@ -35,13 +30,13 @@ part-on-start-end : tie.Need-part-on-start-end
 part-on-start-end c = let k = c .before .before .before .before in omega (arith, held-ready _ (k .args .h) _ (k .pre .0) .fits)
 
 array-share-prefix-list : tie.Need-array-share-prefix-list
-array-share-prefix-list c = let k = c .before .before .before .before .before in count-fits (k .args .h) (held-header _ _ _ (k .pre .0)) (two k)
+array-share-prefix-list c = let k = c .before .before .before .before .before in count-fits (k .args .h) (held-header _ _ _ (k .pre .0)) (k .pre .1 .0 .places)
 
 slice-aggregate-on-start : tie.Need-slice-aggregate-on-start
-slice-aggregate-on-start c = let k = c .before .before .before .before .before .before in listed-count (k .args .h) (held-header _ _ _ (k .pre .0)) (two k)
+slice-aggregate-on-start c = let k = c .before .before .before .before .before .before in listed-count (k .args .h) (held-header _ _ _ (k .pre .0)) (k .pre .1 .0 .places)
 
 on-start-requires : tie.Need-on-start-requires
-on-start-requires c κs = let k = c .before .before .before .before .before .before in (window-whole _ (k .args .h) _ (k .pre .0) (λ i. omega (arith, c .before .before .before .before .before .slice-known .given i)), stocked (k .args .h) (k .pre .1 .header) (two k) _ (k .pre .1 .each))
+on-start-requires c κs = let k = c .before .before .before .before .before .before in (window-whole _ (k .args .h) _ (k .pre .0) (k .args .g .clock) (λ i. omega (arith, c .before .before .before .before .before .slice-known .given i)) (k .pre .1 .1), stocked (k .args .h) (k .pre .1 .0 .header) (k .pre .1 .0 .places) _ (k .pre .1 .0 .each))
 
 same-length : tie.Need-same-length
 same-length c = search needs

@@ -1,7 +1,7 @@
 -- `frame::head_of` meets its contract: three fields from the start, each where the reader stands behind the one before.
 use mathlib.Core.Path.{refl}
 use native.Mathlib.Omega.{arith}
-use Rattle.frame.proofs.Reading.{field-reached, head-law}
+use Rattle.frame.proofs.Reading.{field-reached, head-read}
 use borrow.Author.Needs.{needs}
 use Rattle.frame.proofs.head_of.Statement.{statement}
 use Rattle.frame.proofs.head_of.Tie as tie
@@ -16,7 +16,7 @@ field-at-requires-3 : tie.Need-field-at-requires-3
 field-at-requires-3 c κs = omega (arith, field-reached (c .field-at2 .result) _ _ 2 (c .field-at2 .ensures) (field-reached (c .before .field-at .result) _ 0 0 (c .before .field-at .ensures) refl))
 
 returns : tie.Need-returns
-returns c = head-law _ _ _ _ (c .before .before .field-at .ensures) (c .before .field-at2 .ensures) (c .field-at3 .ensures)
+returns c = head-read _ _ _ _ (c .before .before .field-at .ensures) (c .before .field-at2 .ensures) (c .field-at3 .ensures)
 
 pub head-of-spec : {M : Type 1} → statement M
 head-of-spec =

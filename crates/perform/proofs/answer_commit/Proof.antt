@@ -23,7 +23,7 @@ same-length : tie.Need-same-length
 same-length c = search needs
 
 returns : tie.Need-returns
-returns c = let k = c .before .before .before .before .before .before .before .before .before .before .before .before .before in answer-law _ _ _ _ (messageOf (k .args .body .now) (k .args .v)) _ _ _ _ _ _ _ (c .before .before .before .before .before .before .before .fresh-for .ensures) (c .before .before .before .before .before .before .commit .ensures) (c .before .before .before .before .before .commit-frame .ensures) (c .before .before .before .before .confirm-frame .ensures) (c .before .before .form-pair .ensures)
+returns c = let k = c .before .before .before .before .before .before .before .before .before .before .before .before .before .before in answer-law _ _ _ _ (messageOf (k .args .body .now) (k .args .v)) _ _ _ _ _ _ _ (c .before .before .before .before .before .before .before .fresh-for .ensures) (c .before .before .before .before .before .before .commit .ensures) (c .before .before .before .before .before .commit-frame .ensures) (c .before .before .before .before .confirm-frame .ensures) (c .before .before .form-pair .ensures)
 
 pub answer-commit-spec : {M : Type 1} → statement M
 answer-commit-spec =

@@ -16,7 +16,7 @@ same-length : tie.Need-same-length
 same-length c = search needs
 
 returns : tie.Need-returns
-returns c = begin-law _ _ _ _ _ (c .before .before .before .before .before .before .before .before .before .args .groups .now) _ (c .before .before .before .before .before .before .before .before .before .args .time) (c .before .before .before .before .fresh-at .ensures) (c .before .before .start .ensures)
+returns c = begin-law _ _ _ _ _ (c .before .before .before .before .before .before .before .before .before .args .groups .now) _ (c .before .before .before .before .before .before .before .before .before .args .clock) (c .before .before .before .before .fresh-at .ensures) (c .before .before .start .ensures)
 
 pub begin-spec : {M : Type 1} → statement M
 begin-spec =

@@ -20,7 +20,7 @@ same-length : tie.Need-same-length
 same-length c = search needs
 
 returns : tie.Need-returns
-returns c = let k = c .before .before .before .before .before .before .before .before .before .before .before in confirm-law _ _ _ _ (messageOf (k .args .body .now) (k .args .v)) _ _ _ _ (c .before .before .before .before .before .before .own-of .ensures) (c .before .before .before .before .before .commit .ensures) (c .before .before .before .before .confirm-frame .ensures) (c .before .before .form-pair .ensures)
+returns c = let k = c .before .before .before .before .before .before .before .before .before .before .before .before in confirm-law _ _ _ _ (messageOf (k .args .body .now) (k .args .v)) _ _ _ _ (c .before .before .before .before .before .before .own-of .ensures) (c .before .before .before .before .before .commit .ensures) (c .before .before .before .before .confirm-frame .ensures) (c .before .before .form-pair .ensures)
 
 pub confirm-commit-spec : {M : Type 1} → statement M
 confirm-commit-spec =

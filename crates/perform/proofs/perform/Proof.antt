@@ -1,4 +1,5 @@
 use Rattle.perform.proofs.Performs.{did-drop, did-refuse-group, did-ask-token, did-no-slot, did-answer-commit, did-confirm-commit, did-reply-token, did-switch-group, did-repeat-commit, did-repeat-refusal, did-resend-both, did-confirm-again, did-give-up, did-accept, did-hear-again, did-hear-last, did-end-link, did-begin}
+use native.Mathlib.Omega.{arith}
 use borrow.Author.Needs.{needs}
 use Rattle.perform.proofs.perform.Statement.{statement}
 use Rattle.perform.proofs.perform.Tie as tie
@@ -67,7 +68,7 @@ enum-told-11 : tie.Need-enum-told-11
 enum-told-11 c = search needs
 
 resend-both-requires : tie.Need-resend-both-requires
-resend-both-requires c κs = let k = c .before .before .before .before .before .before .before .before .pre in (k .0 .record-is, k .1 .resend (c .before .enum-told11 .given .1))
+resend-both-requires c κs = let k = c .before .before .before .before .before .before .before .before .before .pre in (k .0 .record-is, k .1 .resend (c .before .enum-told11 .given .1))
 
 enum-told-12 : tie.Need-enum-told-12
 enum-told-12 c = search needs
@@ -91,7 +92,7 @@ enum-told-15 : tie.Need-enum-told-15
 enum-told-15 c = search needs
 
 hear-again-requires : tie.Need-hear-again-requires
-hear-again-requires c κs = let k = c .before .before .before .before .before .before .before .before .pre in (k .0 .record-is .size, k .1 .hear (c .before .enum-told15 .given .1))
+hear-again-requires c κs = let k = c .before .before .before .before .before .before .before .before .before .pre in (k .0 .record-is .size, omega (arith, k .0 .record-is .paced .few, k .1 .hear (c .before .enum-told15 .given .1)))
 
 enum-told-16 : tie.Need-enum-told-16
 enum-told-16 c = search needs

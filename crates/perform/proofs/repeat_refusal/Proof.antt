@@ -16,7 +16,7 @@ same-length : tie.Need-same-length
 same-length c = search needs
 
 returns : tie.Need-returns
-returns c = repeat-refusal-law _ _ _ _ _ _ _ _ (c .before .before .before .before .before .sc-of .ensures) (c .before .before .before .before .group-refusal-frame .ensures) (c .before .before .retransmit .ensures)
+returns c = repeat-refusal-law _ _ _ _ _ _ _ (c .before .before .before .before .before .sc-of .ensures) (c .before .before .before .before .group-refusal-frame .ensures) (c .before .before .retransmit .ensures)
 
 pub repeat-refusal-spec : {M : Type 1} → statement M
 repeat-refusal-spec =

@@ -26,7 +26,7 @@ same-length : tie.Need-same-length
 same-length c = search needs
 
 returns : tie.Need-returns
-returns c = let k = c .before .before .before .before .before .before .before .before .before .before .before in reply-token-law _ (k .args .s .now) (c .before .before .before .before .before .before .store-token .last .0) _ (messageOf (k .args .body .now) (k .args .v)) _ _ (c .before .before .before .before .before .before .before .before .token .ensures) (c .before .before .before .before .before .before .store-token .ensures) (k .pre .0) (search needs) (c .before .before .repeat-commit .ensures)
+returns c = let k = c .before .before .before .before .before .before .before .before .before .before .before in reply-token-law _ (k .args .s .now) (c .before .before .before .before .before .before .store-token .last .0) _ (messageOf (k .args .body .now) (k .args .v)) _ _ (c .before .before .before .before .before .before .before .before .token .ensures) (c .before .before .before .before .before .before .store-token .ensures) (k .pre .1 .0) (search needs) (c .before .before .repeat-commit .ensures)
 
 pub reply-token-spec : {M : Type 1} → statement M
 reply-token-spec =

@@ -34,7 +34,7 @@ returns : tie.Need-returns
 returns c =
     let d = c .before .before .before .before in
     let e = d .before .before in
-    resend-law _ _ _ _ _ _ _ _ _ _ (e .before .before .before .before .group-of .ensures) (e .before .before .sync-of .ensures) (e .sc-of .ensures) (d .before .commit-frame .ensures)
+    resend-law _ _ _ _ _ _ _ _ _ (e .before .before .before .before .group-of .ensures) (e .before .before .sync-of .ensures) (e .sc-of .ensures) (d .before .commit-frame .ensures)
     (d .confirm-frame .ensures) (c .before .before .send-counted .ensures)
 
 pub resend-both-spec : {M : Type 1} → statement M

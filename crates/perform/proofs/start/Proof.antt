@@ -29,7 +29,7 @@ same-length : tie.Need-same-length
 same-length c = search needs
 
 returns : tie.Need-returns
-returns c = start-law _ (c .before .before .before .before .before .before .before .before .before .before .before .before .before .before .args .s .now) (c .before .before .before .before .before .before .before .before .before .before .before .start-run .last .0) _ _ _ _ _ _ _ _ (c .before .before .before .before .before .before .before .before .before .before .before .start-run .ensures) refl (c .before .before .before .before .before .before .before .put8 .ensures) (c .before .before .before .put6 .ensures) (c .commit-frame .ensures) refl (c .before .before .before .before .before .before .before .before .before .before .before .before .before .before .pre) (search needs) (search needs)
+returns c = start-law _ (c .before .before .before .before .before .before .before .before .before .before .before .before .before .before .args .s .now) (c .before .before .before .before .before .before .before .before .before .before .before .start-run .last .0) _ _ _ _ _ _ _ _ (c .before .before .before .before .before .before .before .before .before .before .before .start-run .ensures) refl (c .before .before .before .before .before .before .before .put8 .ensures) (c .before .before .before .put6 .ensures) (c .commit-frame .ensures) refl (c .before .before .before .before .before .before .before .before .before .before .before .before .before .before .pre .1) (search needs) (search needs)
 
 pub start-spec : {M : Type 1} → statement M
 start-spec =

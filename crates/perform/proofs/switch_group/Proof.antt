@@ -37,13 +37,13 @@ same-length : tie.Need-same-length
 same-length c = search needs
 
 returns : tie.Need-returns
-returns c = switch-law _ _ _ _ _ _ _ _ _ _ _ _ _ _ _ (c .before .before .before .before .before .before .before .before .before .before .before .before .before .group-of .ensures) (c .before .before .before .before .before .before .before .before .before .before .before .rejected-of .ensures) (c .before .before .before .before .before .before .before .before .before .before .index-of .ensures .0) (c .before .before .before .before .before .before .before .before .before .marked-with .ensures) (c .before .before .before .before .before .before .before .before .first-left .ensures) (c .before .before .before .before .before .before .k .given .1) (c .before .before .before .before .fresh-at .ensures) (c .before .before .switch-to .ensures)
+returns c = switch-law _ _ _ _ _ _ _ _ _ _ _ _ _ _ (c .before .before .before .before .before .before .before .before .before .before .before .before .before .group-of .ensures) (c .before .before .before .before .before .before .before .before .before .before .before .rejected-of .ensures) (c .before .before .before .before .before .before .before .before .before .before .index-of .ensures .0) (c .before .before .before .before .before .before .before .before .before .marked-with .ensures) (c .before .before .before .before .before .before .before .before .first-left .ensures) (c .before .before .before .before .before .before .k .given .1) (c .before .before .before .before .fresh-at .ensures) (c .before .before .switch-to .ensures)
 
 same-length-2 : tie.Need-same-length-2
 same-length-2 c = search needs
 
 returns-2 : tie.Need-returns-2
-returns-2 c = switch-none _ _ _ _ _ _ _ _ _ _ _ _ (c .before .before .before .before .before .before .before .before .before .before .before .group-of .ensures) (c .before .before .before .before .before .before .before .before .before .rejected-of .ensures) (c .before .before .before .before .before .before .before .before .index-of .ensures .0) (c .before .before .before .before .before .before .before .marked-with .ensures) (c .before .before .before .before .before .before .first-left .ensures) (c .before .before .before .before .enum-told .given .1) (c .before .before .abandon .ensures)
+returns-2 c = switch-none _ _ _ _ _ _ _ _ _ _ _ (c .before .before .before .before .before .before .before .before .before .before .before .group-of .ensures) (c .before .before .before .before .before .before .before .before .before .rejected-of .ensures) (c .before .before .before .before .before .before .before .before .index-of .ensures .0) (c .before .before .before .before .before .before .before .marked-with .ensures) (c .before .before .before .before .before .before .first-left .ensures) (c .before .before .before .before .enum-told .given .1) (c .before .before .abandon .ensures)
 
 pub switch-group-spec : {M : Type 1} → statement M
 switch-group-spec =

@@ -14,7 +14,7 @@ part-switch-run-end : tie.Need-part-switch-run-end
 part-switch-run-end c = search needs
 
 switch-run-requires : tie.Need-switch-run-requires
-switch-run-requires c κs = (search needs, window-within _ (c .before .before .pre .size) (c .before .before .pre .sync))
+switch-run-requires c κs = let k = c .before .before .pre in (k .paced, (search needs, window-within _ _ (k .size) (k .sync)))
 
 commit-frame-requires : tie.Need-commit-frame-requires
 commit-frame-requires c κs = search needs

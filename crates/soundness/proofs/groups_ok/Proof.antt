@@ -9,6 +9,9 @@ array-read-a c = search needs
 array-read-b : tie.Need-array-read-b
 array-read-b c = search needs
 
+array-read-c : tie.Need-array-read-c
+array-read-c c = search needs
+
 is-known-requires : tie.Need-is-known-requires
 is-known-requires c κs = search needs
 
@@ -30,6 +33,7 @@ groups-ok-spec =
     (tie.spec
     array-read-a
     array-read-b
+    array-read-c
     is-known-requires
     returns
     is-known-requires-2

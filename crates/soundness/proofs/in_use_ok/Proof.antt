@@ -43,7 +43,7 @@ link-ok-requires : tie.Need-link-ok-requires
 link-ok-requires c κs = search needs
 
 returns : tie.Need-returns
-returns c = in-use-law _ _ _ _ _ _ _ _ _ _ (c .before .before .before .before .before .before .before .before .get8 .ensures) (c .before .before .before .before .before .before .before .take6 .ensures) (c .before .before .before .before .before .before .get82 .ensures) (c .before .before .before .before .before .get83 .ensures) (c .before .before .before .before .is-usable .ensures) (c .before .before .run-ok .ensures) (c .link-ok .ensures)
+returns c = in-use-law _ _ _ _ _ _ _ _ _ _ _ (c .before .before .before .before .before .before .before .before .get8 .ensures) (c .before .before .before .before .before .before .before .take6 .ensures) (c .before .before .before .before .before .before .get82 .ensures) (c .before .before .before .before .before .get83 .ensures) (c .before .before .before .before .is-usable .ensures) (c .before .before .run-ok .ensures) (c .link-ok .ensures)
 
 pub in-use-ok-spec : {M : Type 1} → statement M
 in-use-ok-spec =

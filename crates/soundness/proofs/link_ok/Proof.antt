@@ -11,13 +11,13 @@ all-zero-requires : tie.Need-all-zero-requires
 all-zero-requires c κs = search needs
 
 returns : tie.Need-returns
-returns c = link-nothing _ _ _ _ (c .before .before .get8 .ensures) (λ i. omega (arith, c .before .before .before .before .shared-slice-known .given i)) (c .before .before .before .before .before .pre) (c .before .if1 .taken) (c .all-zero .ensures)
+returns c = link-nothing _ _ _ _ _ (c .before .before .get8 .ensures) (λ i. omega (arith, c .before .before .before .before .shared-slice-known .given i)) (c .before .before .before .before .before .pre) (c .before .if1 .taken) (c .all-zero .ensures)
 
 finished-ok-requires : tie.Need-finished-ok-requires
 finished-ok-requires c κs = search needs
 
 returns-2 : tie.Need-returns-2
-returns-2 c = link-finish _ _ _ _ (c .before .before .get8 .ensures) (c .before .if1 .left) (c .finished-ok .ensures)
+returns-2 c = link-finish _ _ _ _ _ (c .before .before .get8 .ensures) (c .before .if1 .left) (c .finished-ok .ensures)
 
 pub link-ok-spec : {M : Type 1} → statement M
 link-ok-spec =

@@ -1,4 +1,4 @@
-use Rattle.table.proofs.Laws.{share-used, share-open, after-used, after-open}
+use Rattle.table.proofs.Laws.{share-used, share-open, after-used, after-open, after-law}
 use borrow.Author.Needs.{needs}
 use Rattle.table.proofs.counts_after.Statement.{statement}
 use Rattle.table.proofs.counts_after.Tie as tie
@@ -17,10 +17,10 @@ moved-requires-2 c κs = let s = c .before .before .before .before in share-open
 
 returns : tie.Need-returns
 returns c =
-    let s = c .before .before .before .before .before in (
-      after-used _ _ (s .args .h) (s .args .was) (s .pre) _ _ (c .before .before .before .is-used .ensures) (c .before .before .moved .ensures),
-      after-open _ _ (s .args .h) (s .args .was) (s .pre) _ _ (c .before .is-open .ensures) (c .moved2 .ensures),
-    )
+    let s = c .before .before .before .before .before in
+    after-law _ _ _
+    (after-used _ _ (s .args .h) (s .args .was) (s .pre) _ _ (c .before .before .before .is-used .ensures) (c .before .before .moved .ensures))
+    (after-open _ _ (s .args .h) (s .args .was) (s .pre) _ _ (c .before .is-open .ensures) (c .moved2 .ensures))
 
 pub counts-after-spec : {M : Type 1} → statement M
 counts-after-spec = tie.close (tie.spec is-used-requires moved-requires is-open-requires moved-requires-2 returns)

@@ -1,6 +1,6 @@
 use native.Mathlib.Omega.{arith}
-use Prim.Native.Nat.{ℕ, _≤_, _<_, _-_, _+_}
-use mathlib.Core.Path.{_≡_, sym}
+use Prim.Native.Nat.{_≤_, _-_}
+use mathlib.Core.Path.{_≡_, refl, sym}
 use Rattle.octets.specs.Scan.{countBelow}
 use Rattle.octets.proofs.Scan.{count-none, count-step, count-fits, count-through, count-le}
 use Rattle.table.specs.Table.{decodeTable, slot, inUse, isOpen}
@@ -73,7 +73,7 @@ cast-t9 c =
 returns : tie.Need-returns Inv-loop μ-loop
 returns c =
     let l = c .before .loop in
-    (count-through _ _ _ _ (l .inv .0) (c .loop-test .left) (l .inv .1 .0), count-through _ _ _ _ (l .inv .0) (c .loop-test .left) (l .inv .1 .1))
+    (count-through _ _ _ _ (l .inv .0) (c .loop-test .left) (l .inv .1 .0), (count-through _ _ _ _ (l .inv .0) (c .loop-test .left) (l .inv .1 .1), refl))
 
 pub counts-below-spec : {M : Type 1} → statement M
 counts-below-spec =

@@ -1,5 +1,7 @@
 use Rattle.table.proofs.Initial.{fill-law}
-use Rattle.record.proofs.Laws.{TwoSix, length-six}
+use mathlib.Core.Path.{_≡_}
+use lib.ListN.{length}
+use Rattle.record.proofs.Laws.{length-six}
 use borrow.Author.Needs.{needs}
 use Rattle.table.proofs.fill.Statement.{statement}
 use Rattle.table.proofs.fill.Tie as tie
@@ -31,7 +33,7 @@ store-header-requires c κs = search needs
 same-length : tie.Need-same-length
 same-length c = search needs
 
-fit : (c : tie.Start) → TwoSix (c .args .h)
+fit : (c : tie.Start) → length (c .args .h .own) ≡ 6
 fit c = search needs
 
 returns : tie.Need-returns

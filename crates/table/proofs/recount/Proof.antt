@@ -17,7 +17,7 @@ returns : tie.Need-returns
 returns c =
     let n = c .before .before .before .before in
     let s = n .before .before .before in
-    recount-law (s .args .t .now) _ _ _ _ (λ i. omega (arith, n .before .before .slice-known .given i)) (s .pre .whole) (c .before .before .set-counts .ensures) (n .counts-after .ensures .0) (n .counts-after .ensures .1)
+    recount-law (s .args .t .now) _ _ _ (λ i. omega (arith, n .before .before .slice-known .given i)) (s .pre .whole) (c .before .before .set-counts .ensures) (n .counts-after .ensures)
 
 pub recount-spec : {M : Type 1} → statement M
 recount-spec = tie.close (tie.spec counts-after-requires set-counts-requires same-length returns)

@@ -1,5 +1,5 @@
 use Rattle.soundness.specs.Soundness.{peerOk}
-use mathlib.Core.Path.{_≡_, refl, sym, ap, _∙_}
+use mathlib.Core.Path.{ap, _∙_}
 use Rattle.table.proofs.Octets.{window-law}
 use borrow.Author.Needs.{needs}
 use Rattle.table.proofs.slot_ok.Statement.{statement}
@@ -27,7 +27,7 @@ peer-ok-requires : tie.Need-peer-ok-requires
 peer-ok-requires c κs = search needs
 
 returns : tie.Need-returns
-returns c = let k = c .before .before .before .before in c .peer-ok .ensures ∙ ap (peerOk (k .args .own) (k .args .groups .now)) (window-law (k .args .t .now) (k .args .k) (k .pre .0))
+returns c = let k = c .before .before .before .before in c .peer-ok .ensures ∙ ap (peerOk (k .args .own) (k .args .groups .now) (k .args .high)) (window-law (k .args .t .now) (k .args .k) (k .pre .0))
 
 pub slot-ok-spec : {M : Type 1} → statement M
 slot-ok-spec =

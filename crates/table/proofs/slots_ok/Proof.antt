@@ -1,20 +1,19 @@
 use borrow.Author.Needs.{needs}
 use Rattle.soundness.specs.Soundness.{peerOk}
 use Rattle.octets.proofs.Scan.{all-none, all-more, all-broke, all-through}
-use Rattle.octets.specs.Scan.{allBelow, countBelow, firstBelow, lastBelow, bit}
-use Rattle.table.specs.Table.{decodeTable, slot, inUse, isOpen, key, newKey}
-use native.Mathlib.Omega.{arith}
-use Prim.Native.Nat.{ℕ, _≤_, _<_, _-_, _+_}
-use mathlib.Core.Bool.{true, false, not, _&&_}
-use mathlib.Core.Path.{_≡_, refl, sym, ap, _∙_}
+use Rattle.octets.specs.Scan.{allBelow}
+use Rattle.table.specs.Table.{decodeTable, slot}
+use Prim.Native.Nat.{_≤_, _-_}
+use mathlib.Core.Bool.{true}
+use mathlib.Core.Path.{_≡_, sym, _∙_}
 use Rattle.table.proofs.slots_ok.Statement.{statement}
 use Rattle.table.proofs.slots_ok.Tie as tie
 
 abbrev Inv-loop : tie.InvT-loop
-Inv-loop t n own groups i₀ i = (i ≤ n) × (allBelow (λ k. peerOk own groups (slot (decodeTable t) k)) i ≡ true)
+Inv-loop t n own groups high i₀ i = (i ≤ n) × (allBelow (λ k. peerOk own groups high (slot (decodeTable t) k)) i ≡ true)
 
 abbrev μ-loop : tie.MeasureT-loop
-μ-loop t n own groups i₀ i = n - i
+μ-loop t n own groups high i₀ i = n - i
 
 loop-holds : tie.Need-loop-holds Inv-loop μ-loop
 loop-holds c = (search needs, all-none _)
