@@ -21,7 +21,7 @@ use Rattle.rules.specs.declared.Frames.the-variants.{None, One, Two}
 use Rattle.rules.specs.Book.{Step}
 use Rattle.rules.specs.Book.{_is_, _isnt_, supersede}
 use Rattle.agreement.specs.Calls.{Call}
-use Rattle.agreement.specs.Story.{stockOf, someFrame, isConfirm, isFirstConfirm, isAccepted}
+use Rattle.agreement.specs.Story.{stockIn, someFrame, isConfirm, isFirstConfirm, isAccepted}
 use Rattle.agreement.specs.Sent.{Among, only, first, second}
 use Rattle.agreement.proofs.Rules.{SameRun, SameLink, Afresh, Hears, Verified, Does, quiet, informs, starts, switches, forms-fresh, forms-own, repeats, repeats-both, repeats-confirm, accepts, abandons, ends, answers}
 
@@ -125,7 +125,7 @@ pub record Accepting (gs : List ℕ) (c : Call) (p : Peer) (o : Step) (d q : Com
 pub record Did (gs : List ℕ) (c : Call) (p : Peer) (o : Step) (e : Act) : Type 0 where
   pub moves : act e (view p) ≡ view (o .peer)
   pub may : Guard e (view p)
-  pub uses : (d : Commit) → Uses d e → (eqb (o .afresh) 0 ≡ false) × (record { group = o .afresh; octets = freshFor gs (stockOf c) (o .afresh) } ≡ d)
+  pub uses : (d : Commit) → Uses d e → (eqb (o .afresh) 0 ≡ false) × (record { group = o .afresh; octets = freshFor gs (stockIn gs c) (o .afresh) } ≡ d)
   pub forms : (d q : Commit) → Forms d q e → Forming gs c o d q
   pub accepts : (d q : Commit) → Accepts d q e → Accepting gs c p o d q
   pub commits : (x : Frame) → Among x (o .frames) → isConfirm x ≡ false → eqb (x .status) 0 ≡ true → SendsCommit (ownCommit (o .peer)) e
@@ -143,7 +143,7 @@ among-two P p q x first = p
 among-two P p q x second = q
 
 used-is : (gs : List ℕ) (c : Call) (g : ℕ) (own : List ℕ) (d : Commit) → Afresh gs c g own → d ≡ record { group = g; octets = own }
-    → (eqb g 0 ≡ false) × (record { group = g; octets = freshFor gs (stockOf c) g } ≡ d)
+    → (eqb g 0 ≡ false) × (record { group = g; octets = freshFor gs (stockIn gs c) g } ≡ d)
 used-is gs c g own d A e = (A .some, ap (λ (x : List ℕ). record { group = g; octets = x }) (sym (A .stock)) ∙ sym e)
 
 own-is : (q : Peer) {g : ℕ} {o : List ℕ} → q .run .group ≡ g → q .run .own ≡ o → ownCommit q ≡ record { group = g; octets = o }

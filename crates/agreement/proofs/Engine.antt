@@ -5,8 +5,10 @@ use mathlib.Core.Bool.{Bool, true, false, not}
 use mathlib.Core.List.{List, []}
 use Prim.Native.Nat.{ℕ, _+_, _^_, _≤_, _<_}
 use native.Mathlib.Omega.{arith}
-use lib.Dec.{eqb, ltb, lit<}
-use lib.ListN.{length}
+use native.Mathlib.Nat.{zero-div}
+use lib.Dec.{eqb, ltb, lit<, lit≤}
+use lib.ListN.{length, getD}
+use lib.Seq.{length-take-le}
 use borrow.Author.Tests.{eqb-true, not-false}
 use Rattle.octets.specs.Scan.{if_then_else_}
 use Rattle.octets.specs.Octets.{Bytes, part, num, sameAddress}
@@ -14,7 +16,7 @@ use Rattle.octets.specs.declared.Found.{Found}
 use Rattle.octets.specs.declared.Found.the-variants as found
 use Rattle.octets.proofs.Scan.{clash}
 use Rattle.octets.proofs.Laws.{get-law, get8-law}
-use Rattle.groups.specs.Groups.{freshOk}
+use Rattle.groups.specs.Groups.{commitsOf, freshOf, freshOk, freshAt}
 use Rattle.frame.specs.Frame.{readBody}
 use Rattle.frame.specs.declared.Body.{Body}
 use Rattle.frame.specs.declared.Body.the-variants as body
@@ -22,9 +24,10 @@ use Rattle.frame.proofs.Shapes.{commit-shape, other-confirm-shape}
 use Rattle.record.specs.declared.Peer.{Peer}
 use Rattle.record.specs.declared.Counts.{Counts}
 use Rattle.record.specs.declared.Header.{Header}
-use Rattle.record.specs.Layout.{groupsOf, limitOf, counted, noPeer, decodeHeader, headerOf}
+use Rattle.record.specs.Layout.{widthIn, groupsOf, limitOf, counted, noPeer, decodeHeader, headerOf}
 use Rattle.record.specs.SettingsOctets.{settingsOf, reservedZero}
-use Rattle.soundness.proofs.Laws.{header-form, settings-form, groups-form, groups-length}
+use Rattle.record.proofs.Laws.{form-width}
+use Rattle.soundness.proofs.Laws.{header-groups, header-width}
 use Rattle.table.specs.Table.{Table, decodeTable, encodeTable, recounted, slot, finds, look, lookBy, sound, entry}
 use Rattle.table.specs.Initial.{initialOk, slotsFor, initialTable, initial}
 use Rattle.table.specs.declared.Entry.{Entry}
@@ -44,13 +47,13 @@ use Rattle.answers.proofs.Laws.{Entered, old, new, unchanged-ends}
 use Rattle.answers.proofs.Theorems.{Good}
 use Rattle.answers.proofs.Ending.{Finished, Turned, turn-ends, finish-ends}
 use Rattle.answers.proofs.Ending as ending
-use Rattle.calls.specs.Calls.{initializes, initializesFrom, initiates, kills, receives, expires, expiresBy, termsOf, clockOf, brings, noToken, admitStart, startTurn, startStep, killTurn, killStep, admitFrame, frameTurn, frameStep, dueSlot, clockStep}
+use Rattle.calls.specs.Calls.{initializes, initializesFrom, initiates, kills, receives, expires, expiresBy, termsOf, clockOf, freshIn, brings, noToken, admitStart, startTurn, startStep, killTurn, killStep, admitFrame, frameTurn, frameStep, dueSlot, clockStep}
 use Rattle.call_laws.proofs.Ends.{set-up-leaves}
 use Rattle.agreement.specs.Calls.{Writing, Call, initialize, initiate, kill, receive, expire, write, Octets, CallHanded, an-initialize, an-initiate, a-kill, a-receive, an-expire, a-write, left, isDone, done, tableAfter}
-use Rattle.agreement.specs.Story.{stockOf, groupsIn, limitIn}
-use Rattle.agreement.proofs.Rules.{Whole, Verified, verified, Does}
+use Rattle.agreement.specs.Story.{stockOf, stockIn, groupsIn, limitIn}
+use Rattle.agreement.proofs.Rules.{Whole, Afresh, Verified, verified, Does}
 use Rattle.agreement.proofs.Ruled.{State, Heard, Stocked, frame-does, clock-does, start-does}
-use Rattle.agreement.proofs.Stock.{sound-listing, stocked}
+use Rattle.agreement.proofs.Stock.{sound-listing, same-stock, stocked}
 
 -- ---- what the engine's proofs give: each call's step leaves a record of the right form
 
@@ -80,15 +83,15 @@ past true c x f e = clashed e
 past false c x f e = (refl, e)
 
 admit-start : (T : Table) (g : Found) (fresh : List ℕ) (f : Found) → admitStart T g fresh ≡ Go f
-    → (freshOk (groupsOf (T .header)) fresh ≡ true) × ((eqb (lookBy T f .run .state) 0 ≡ true))
+    → (freshOk (widthIn (T .header)) (groupsOf (T .header)) fresh ≡ true) × ((eqb (lookBy T f .run .state) 0 ≡ true))
 unfolding admitStart
 admit-start T g fresh f e =
-    let a = past (not (freshOk (groupsOf (T .header)) fresh)) why.Fresh (if hasRun (lookBy T g) then Refused why.Running else Go g) f e in
+    let a = past (not (freshOk (widthIn (T .header)) (groupsOf (T .header)) fresh)) why.Fresh (if hasRun (lookBy T g) then Refused why.Running else Go g) f e in
     let b = past (hasRun (lookBy T g)) why.Running (Go g) f (a .1) in
     (not-false _ (a .0), subst (λ (x : Found). eqb (lookBy T x .run .state) 0 ≡ true) (go-same (b .1)) (not-false _ (b .0)))
 
 start-admits : (E : Entry) (t fresh : List ℕ) (f : Found) → startTurn E t fresh ≡ Go f
-    → (freshOk (groupsIn t) fresh ≡ true) × (eqb (lookBy (decodeTable t) f .run .state) 0 ≡ true)
+    → (freshOk (widthIn (decodeTable t .header)) (groupsIn t) fresh ≡ true) × (eqb (lookBy (decodeTable t) f .run .state) 0 ≡ true)
 unfolding startTurn
 start-admits entry-is.Unsound t fresh f e = clashed e
 start-admits entry-is.Unusable t fresh f e = clashed e
@@ -105,14 +108,14 @@ admit-frame b x y z g f e =
     (not-false b (p .0), past z why.Body (Go g) f (r .1) .0)
 
 frame-admits : (E : Entry) (t frame fresh expected : List ℕ) (verdict : ℕ) (f : Found) → frameTurn E t frame fresh expected verdict ≡ Go f
-    → (freshOk (groupsIn t) fresh ≡ true) × (eqb (view (groupsIn t) frame .sequence) 0 ≡ false)
+    → (freshOk (widthIn (decodeTable t .header)) (groupsIn t) fresh ≡ true) × (eqb (view (groupsIn t) frame .sequence) 0 ≡ false)
 unfolding frameTurn admitFrame
 frame-admits entry-is.Unsound t frame fresh expected verdict f e = clashed e
 frame-admits entry-is.Unusable t frame fresh expected verdict f e = clashed e
 frame-admits entry-is.Absent t frame fresh expected verdict f e =
-    admit-frame (freshOk (groupsIn t) fresh) (not (eqb (length expected) 32)) (ltb 1 verdict) (view (groupsIn t) frame .sequence is 0) found.Nothing f e
+    admit-frame (freshOk (widthIn (decodeTable t .header)) (groupsIn t) fresh) (not (eqb (length expected) 32)) (ltb 1 verdict) (view (groupsIn t) frame .sequence is 0) found.Nothing f e
 frame-admits (entry-is.At k) t frame fresh expected verdict f e =
-    admit-frame (freshOk (groupsIn t) fresh) (not (eqb (length expected) 32)) (ltb 1 verdict) (view (groupsIn t) frame .sequence is 0) (found.At k) f e
+    admit-frame (freshOk (widthIn (decodeTable t .header)) (groupsIn t) fresh) (not (eqb (length expected) 32)) (ltb 1 verdict) (view (groupsIn t) frame .sequence is 0) (found.At k) f e
 
 -- the record that a call found is its address's
 entered-look : (t a : List ℕ) (f : Found) → Entered t a f → lookBy (decodeTable t) f ≡ look (decodeTable t) a
@@ -127,16 +130,25 @@ entered-sound t a f (new e) = entry-absent t a e .0
 -- ---- the rules at work
 
 module _ (t : List ℕ) (s : sound t ≡ true) where
+  abbrev head : Header
+  head = decodeTable t .header
+
   first-listed : 0 < length (groupsIn t)
   unfolding decodeTable decodeHeader headerOf
   first-listed =
-      let g = settings-form _ (header-form _ (sound-header t s) .settings) .groups in
-      let n = groups-length _ _ refl g in
-      let m = groups-form _ _ g .some in
-      omega (arith, n, m)
+      let g = header-groups _ (sound-header t s) in
+      let n = length-take-le (head .settings .count) (head .settings .groups) (omega (arith, g .few)) in
+      omega (arith, n, g .some)
 
-  all-stocked : (c : Call) → freshOk (groupsIn t) (stockOf c) ≡ true → Stocked (groupsIn t) c
-  all-stocked c w = let l = sound-listing t s in stocked (groupsIn t) (stockOf c) (l .known) (l .once) w c refl
+  width-low : 1 ≤ widthIn head
+  width-low = rw (header-width head (sound-header t s)) (lit≤ tt)
+
+  module _ (c : Call) (w : freshOk (widthIn head) (groupsIn t) (stockOf c) ≡ true) where
+    all-stocked : Stocked (groupsIn t) c
+    all-stocked = let l = sound-listing t s in stocked (widthIn head) (groupsIn t) (stockOf c) width-low (form-width _) first-listed (l .known) (l .once) w c refl
+
+    table-stock : freshIn head (stockOf c) ≡ stockIn (groupsIn t) c
+    table-stock = let l = sound-listing t s in sym (same-stock (widthIn head) (groupsIn t) (stockOf c) width-low (form-width _) first-listed (l .known) (l .once) w c refl)
 
 start-kind : (t a : List ℕ) (time : ℕ) (fresh : List ℕ) (f : Found) → sound t ≡ true → startTurn (entry t a) t fresh ≡ Go f
     → startStep (decodeTable t) f a time fresh .refused ≡ false
@@ -144,8 +156,9 @@ start-kind : (t a : List ℕ) (time : ℕ) (fresh : List ℕ) (f : Found) → so
 unfolding startStep
 start-kind t a time fresh f s e r =
     let q = start-admits (entry t a) t fresh f e in
-    start-does (termsOf (decodeTable t) f) (brings a (clockOf (decodeTable t .header) time) fresh noToken false) (initiate a time fresh) (lookBy (decodeTable t) f) refl refl (eqb-true _ _ (q .1))
-    (all-stocked t s (initiate a time fresh) (q .0) .place 0 _ (first-listed t s) refl) r
+    start-does (termsOf (decodeTable t) f) (brings a (clockOf (decodeTable t .header) time) (freshIn (decodeTable t .header) fresh) noToken false) (initiate a time fresh) (lookBy (decodeTable t) f) refl refl (eqb-true _ _ (q .1))
+    (subst (λ (x : List (List ℕ)). Afresh (groupsIn t) (initiate a time fresh) (getD (groupsIn t) 0 0) (freshAt x 0)) (sym (table-stock t s (initiate a time fresh) (q .0)))
+    (all-stocked t s (initiate a time fresh) (q .0) .place 0 _ (first-listed t s) refl)) r
 
 module _ (gs a : List ℕ) (time : ℕ) (frame fresh expected : List ℕ) (verdict : ℕ) where
   abbrev frameCall : Call
@@ -180,23 +193,27 @@ module _ (gs a : List ℕ) (time : ℕ) (frame fresh expected : List ℕ) (verdi
   heard w = heard-by (readBody gs frame) refl w
 
 frame-kind : (t a : List ℕ) (time : ℕ) (frame fresh expected : List ℕ) (verdict : ℕ) (f : Found) → Stocked (groupsIn t) (receive a time frame fresh expected verdict)
-    → eqb (view (groupsIn t) frame .sequence) 0 ≡ false → Whole (lookBy (decodeTable t) f) → State (lookBy (decodeTable t) f .run .state)
+    → freshIn (decodeTable t .header) fresh ≡ stockIn (groupsIn t) (receive a time frame fresh expected verdict) → eqb (view (groupsIn t) frame .sequence) 0 ≡ false → Whole (lookBy (decodeTable t) f) → State (lookBy (decodeTable t) f .run .state)
     → Does (groupsIn t) (limitIn t) (receive a time frame fresh expected verdict) (lookBy (decodeTable t) f) (frameStep (decodeTable t) f a time frame fresh expected verdict)
 unfolding frameStep
-frame-kind t a time frame fresh expected verdict f S w W z =
-    frame-does (termsOf (decodeTable t) f) (brings a (clockOf (decodeTable t .header) time) fresh expected (verdict is 1)) (receive a time frame fresh expected verdict)
-    (lookBy (decodeTable t) f) (message (groupsIn t) frame) refl refl W z (heard (groupsIn t) a time frame fresh expected verdict w) (λ e. S)
+frame-kind t a time frame fresh expected verdict f S y w W z =
+    frame-does (termsOf (decodeTable t) f) (brings a (clockOf (decodeTable t .header) time) (freshIn (decodeTable t .header) fresh) expected (verdict is 1)) (receive a time frame fresh expected verdict)
+    (lookBy (decodeTable t) f) (message (groupsIn t) frame) refl y W z (heard (groupsIn t) a time frame fresh expected verdict w) (λ e. S)
 
 -- a clock call brings no frame
 no-frame : (gs : List ℕ) (time : ℕ) → Heard gs (expire time) silence false
 no-frame gs time = record { commit = λ z l. absurd (clash l refl); confirm = λ d z v. absurd (clash v refl) }
+
+no-stock : (W : ℕ) → [] ≡ freshOf W []
+unfolding freshOf commitsOf
+no-stock W = rw (zero-div W) refl
 
 clock-kind : (t : List ℕ) (time k : ℕ) → Whole (lookBy (decodeTable t) (found.At k)) → State (lookBy (decodeTable t) (found.At k) .run .state)
     → Does (groupsIn t) (limitIn t) (expire time) (lookBy (decodeTable t) (found.At k)) (clockStep (decodeTable t) k time)
 unfolding clockStep lookBy
 clock-kind t time k W z =
     clock-does (termsOf (decodeTable t) (found.At k)) (brings (slot (decodeTable t) k .address) (clockOf (decodeTable t .header) time) [] noToken false) (expire time)
-    (slot (decodeTable t) k) refl refl W z (no-frame (groupsIn t) time)
+    (slot (decodeTable t) k) refl (no-stock _) W z (no-frame (groupsIn t) time)
 
 -- ---- how a call ends
 
@@ -406,7 +423,7 @@ module _ (L : Lawful) (t : List ℕ) (b : Bytes t) where
           let S = all-stocked t s (receive a time frame fresh expected verdict) (w .0) in
           steps a (frameStep (decodeTable t) f a time frame fresh expected verdict) a-frame (said-done _ a _ (F .answer)) (made-of t a _ _ s F)
           (λ W z. subst (λ (p : Peer). Does (groupsIn t) (limitIn t) (receive a time frame fresh expected verdict) p (frameStep (decodeTable t) f a time frame fresh expected verdict)) q
-          (frame-kind t a time frame fresh expected verdict f S (w .1) (subst Whole (sym q) W) (subst (λ (p : Peer). State (p .run .state)) (sym q) z)))
+          (frame-kind t a time frame fresh expected verdict f S (table-stock t s (receive a time frame fresh expected verdict) (w .0)) (w .1) (subst Whole (sym q) W) (subst (λ (p : Peer). State (p .run .state)) (sym q) z)))
 
   due-ends : (time k : ℕ) → time < 2 ^ 32 → sound t ≡ true → dueSlot (decodeTable t) time ≡ found.At k → Ends t (expire time)
   unfolding expiresBy

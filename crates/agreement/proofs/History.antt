@@ -3,6 +3,7 @@
 use mathlib.Core.Path.{_≡_, refl, sym, ap, _∙_, subst}
 use mathlib.Core.Bool.{Bool, true, false, not, _&&_, _||_}
 use mathlib.Core.List.{List, []}
+use native.Mathlib.Nat.{zero-div}
 use Prim.Native.Nat.{ℕ}
 use lib.Dec.{eqb, lit<}
 use borrow.Author.Tests.{eqb-true}
@@ -13,8 +14,8 @@ use Rattle.octets.specs.Scan.{if_then_else_, firstBelow}
 use Rattle.octets.specs.Octets.{Bytes, num, sameAddress}
 use Rattle.octets.proofs.Scan.{clash}
 use Rattle.record.specs.declared.Peer.{Peer}
-use Rattle.record.specs.Layout.{noPeer, factoryLimit}
-use Rattle.table.specs.Table.{Table, decodeTable, peersOf, slot, slots, inUse, belongs, finds, look, lookBy}
+use Rattle.record.specs.Layout.{recordSize, noPeer, factoryLimit}
+use Rattle.table.specs.Table.{Table, widthOf, decodeTable, peersOf, slot, slots, inUse, belongs, finds, look, lookBy}
 use Rattle.rules.specs.Book.{Step}
 use Rattle.answers.specs.declared.Answer.{Answer}
 use Rattle.answers.specs.Answers.{said}
@@ -154,7 +155,7 @@ no-bytes i = lit< tt
 
 pub empty-slot : (k : ℕ) → slot (decodeTable []) k ≡ noPeer
 unfolding slot decodeTable peersOf
-empty-slot k = refl
+empty-slot k = rw (zero-div (recordSize (widthOf []))) refl
 
 nothing-shown : (limit : ℕ) → Shows limit noPeer nothingYet
 unfolding noPeer

@@ -28,7 +28,7 @@ use Rattle.rules.specs.Book as book
 use Rattle.rules.specs.Asked.{NoRun, Asked, refuse-group, ask-token, no-slot, begin, answer-commit, confirm-commit, reply-token, switch-group, repeat-commit, repeat-refusal, resend-both, confirm-again, give-up, accept, hear-again, hear-last, end-link, drop}
 use Rattle.rules.proofs.Ladders.{frame-asked, clock-asked}
 use Rattle.agreement.specs.Calls.{Call}
-use Rattle.agreement.specs.Story.{isStart, isFrame, stockOf}
+use Rattle.agreement.specs.Story.{isStart, isFrame, stockIn}
 use Rattle.agreement.proofs.Rules.{either, Whole, SameRun, SameLink, Afresh, Hears, Verified, Does, quiet, informs, starts, switches, forms-fresh, forms-own, repeats, repeats-both, repeats-confirm, accepts, abandons, ends, answers}
 
 -- the run state is 0, 1 or 2
@@ -59,8 +59,8 @@ pub record Heard (gs : List ℕ) (c : Call) (m : Message) (verdict : Bool) : Typ
   pub confirm : (m .sequence ≡ 1 → ⊥) → m .status ≡ 0 → verdict ≡ true → Verified gs c
 
 pub record Stocked (gs : List ℕ) (c : Call) : Type 0 where
-  pub group : (g : ℕ) → listed gs g ≡ true → Afresh gs c g (freshFor gs (stockOf c) g)
-  pub place : (i g : ℕ) → i < length gs → getD gs i 0 ≡ g → Afresh gs c g (freshAt (stockOf c) i)
+  pub group : (g : ℕ) → listed gs g ≡ true → Afresh gs c g (freshFor gs (stockIn gs c) g)
+  pub place : (i g : ℕ) → i < length gs → getD gs i 0 ≡ g → Afresh gs c g (freshAt (stockIn gs c) i)
 
 -- ---- which acts a Commit names, and which every other message: a commit is used afresh for a Commit alone, and none begins
 
@@ -223,13 +223,13 @@ module _ (gs : List ℕ) (c : Call) (κ : Clock) (p : Peer) (n : isStart c ≡ f
       forms-own n s (subst (λ (x : ℕ). Hears gs c x (m .commit)) e k) (record { state = refl; sync = refl; sc = refl; group = e; own = refl; peer = refl }) refl
 
   switched-to : (rejected : ℕ) (k : Choice) → firstLeft gs 0 rejected ≡ k → p .run .state ≡ 1 → Stocked gs c
-      → Does gs (κ .limit) c p (switchingTo κ p rejected k (stockOf c))
+      → Does gs (κ .limit) c p (switchingTo κ p rejected k (stockIn gs c))
   unfolding switchingTo sending withRun setT0 switched
   switched-to rejected (choice.Group i g) e s S =
       let k = chosen gs rejected i g e in switches n s (S .place i g (k .0) (k .1)) (record { state = s; sync = refl; group = refl; own = refl }) refl
   switched-to rejected choice.None e s S = abandoned
 
-  switched-over : p .run .state ≡ 1 → Stocked gs c → Does gs (κ .limit) c p (switching κ p gs (stockOf c))
+  switched-over : p .run .state ≡ 1 → Stocked gs c → Does gs (κ .limit) c p (switching κ p gs (stockIn gs c))
   unfolding switching
   switched-over s S = switched-to _ _ refl s S
 
@@ -248,7 +248,7 @@ module _ (gs : List ℕ) (c : Call) (κ : Clock) (p : Peer) (n : isStart c ≡ f
 
 -- ---- the rules
 
-module _ (t : Terms) (b : book.Call) (c : Call) (p : Peer) (m : Message) (n : isStart c ≡ false) (same : b .fresh ≡ stockOf c)
+module _ (t : Terms) (b : book.Call) (c : Call) (p : Peer) (m : Message) (n : isStart c ≡ false) (same : b .fresh ≡ stockIn (t .groups) c)
     (W : Whole p) (z : State (p .run .state)) (H : Heard (t .groups) c m (b .verified)) (S : (m .sequence is 1) ≡ true → Stocked (t .groups) c) where
   act-does : {a : Act} → Asked t b p m a → fits (m .sequence is 1) a ≡ true → Does (t .groups) (b .clock .limit) c p (perform t b p m a)
   unfolding perform fits repeatingCommit repeatingRefusal
@@ -260,11 +260,11 @@ module _ (t : Terms) (b : book.Call) (c : Call) (p : Peer) (m : Message) (n : is
       let k = H .commit (o .status) (o .listed) in
       let w = S f .group (m .group) (k .1) in
       formed-fresh (t .groups) c (b .clock) p n W (b .address) m _ (unconfirmed z d)
-      (subst (λ (x : List ℕ). Afresh (t .groups) c (m .group) (freshFor (t .groups) x (m .group))) (sym same) w) (k .0)
+      (subst (λ (x : List (List ℕ)). Afresh (t .groups) c (m .group) (freshFor (t .groups) x (m .group))) (sym same) w) (k .0)
   act-does (confirm-commit s o g e) f = formed-own (t .groups) c (b .clock) p n W (b .address) m s g (H .commit (o .status) (o .listed) .0)
   act-does (reply-token s q g) f = replied (t .groups) c (b .clock) p n W m s
   act-does (switch-group s q g) f =
-      subst (λ (x : List ℕ). Does (t .groups) (b .clock .limit) c p (switching (b .clock) p (t .groups) x)) (sym same)
+      subst (λ (x : List (List ℕ)). Does (t .groups) (b .clock .limit) c p (switching (b .clock) p (t .groups) x)) (sym same)
       (switched-over (t .groups) c (b .clock) p n W s (S f))
   act-does (repeat-commit s q) f = retransmitted (t .groups) c (b .clock) p n W (p .run) 0 (p .run .group) s s refl refl
   act-does (repeat-refusal s q l) f = retransmitted (t .groups) c (b .clock) p n W (p .run) 77 (m .group) s s refl refl
@@ -282,7 +282,7 @@ module _ (t : Terms) (b : book.Call) (c : Call) (p : Peer) (m : Message) (n : is
   frame-does = act-does (frame-asked t b p m) (frame-fits t b p m .yes)
 
 -- a clock call brings no frame
-pub clock-does : (t : Terms) (b : book.Call) (c : Call) (p : Peer) → isStart c ≡ false → b .fresh ≡ stockOf c → Whole p → State (p .run .state)
+pub clock-does : (t : Terms) (b : book.Call) (c : Call) (p : Peer) → isStart c ≡ false → b .fresh ≡ stockIn (t .groups) c → Whole p → State (p .run .state)
     → Heard (t .groups) c silence (b .verified) → Does (t .groups) (b .clock .limit) c p (onClock t b p)
 unfolding onClock
 clock-does t b c p n same W z H =

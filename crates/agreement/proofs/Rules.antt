@@ -16,7 +16,7 @@ use Rattle.rules.specs.declared.Frames.the-variants as frames
 use Rattle.rules.specs.declared.Event.the-variants as event
 use Rattle.rules.specs.Book.{_isnt_, Step, commitFrame, confirmFrame, supersede}
 use Rattle.agreement.specs.Calls.{Call, receive}
-use Rattle.agreement.specs.Story.{isStart, isFrame, frameOf, stockOf}
+use Rattle.agreement.specs.Story.{isStart, isFrame, frameOf, stockIn}
 
 -- what holds of both arms, each under its test, holds of the whole
 pub either : {A : Type 0} (P : A → Type 0) (b : Bool) {x y : A} → (b ≡ true → P x) → (b ≡ false → P y) → P (if b then x else y)
@@ -52,7 +52,7 @@ pub record SameLink (p q : Peer) : Type 0 where
 -- a commit used afresh: the stock's for its group
 pub record Afresh (gs : List ℕ) (c : Call) (g : ℕ) (own : List ℕ) : Type 0 where
   pub some : eqb g 0 ≡ false
-  pub stock : own ≡ freshFor gs (stockOf c) g
+  pub stock : own ≡ freshFor gs (stockIn gs c) g
   pub padded : stored (take (commitLength g) own) ≡ own
 
 -- the run becomes Committed so

@@ -2,8 +2,9 @@
 use mathlib.Core.Path.{_≡_, refl, sym, ap, _∙_, subst}
 use mathlib.Core.Bool.{Bool, true, false, not, _||_}
 use mathlib.Core.List.{List, [], _∷_, _++_}
-use Prim.Native.Nat.{ℕ, zero, suc, _+_, _*_, _-_, _<_}
+use Prim.Native.Nat.{ℕ, zero, suc, _+_, _*_, _-_, _≤_, _<_}
 use native.Mathlib.Omega.{arith}
+use native.Mathlib.Nat.{mul-suc, mul-le-mul-left, mul-div-cancel}
 use lib.Dec.{eqb}
 use lib.ListN.{length, take, drop, getD, length-drop, take-append-drop}
 use lib.Seq.{length-take-le}
@@ -12,16 +13,16 @@ use Rattle.octets.specs.Octets.{allZero}
 use Rattle.octets.specs.declared.Found.{Found}
 use Rattle.octets.specs.declared.Found.the-variants as found
 use Rattle.octets.proofs.Scan.{clash, and-left, and-right}
-use Rattle.octets.proofs.Laws.{length-part}
 use Rattle.octets.proofs.Tests.{zero-is}
-use Rattle.groups.specs.Groups.{width, known, listed, commitLength, stored, placeFrom, place, placeOr0, indexOf, freshAt, freshFor, tailsOk, freshOk}
+use Rattle.groups.specs.Groups.{width, known, listed, commitLength, stored, placeFrom, place, placeOr0, indexOf, freshOf, freshAt, freshFor, tailsOk, freshOk}
 use Rattle.groups.proofs.Laws.{commit-fits, listed-place, place-at}
+use Rattle.groups.proofs.Fresh.{fresh-length, fresh-width}
 use Rattle.soundness.specs.Soundness.{allKnown, eachOnce}
-use Rattle.soundness.proofs.Laws.{header-form, settings-form, groups-form, listed-known}
+use Rattle.soundness.proofs.Laws.{header-groups, listed-known}
 use Rattle.table.specs.Table.{sound}
 use Rattle.table.proofs.Laws.{sound-header}
 use Rattle.agreement.specs.Calls.{Call}
-use Rattle.agreement.specs.Story.{stockOf, groupsIn}
+use Rattle.agreement.specs.Story.{stockOf, stockIn, groupsIn}
 use Rattle.agreement.proofs.Rules.{Afresh}
 use Rattle.agreement.proofs.Ruled.{Stocked}
 
@@ -53,7 +54,7 @@ index-of gs i g o l e = ap placeOr0 (place-of gs i 0 g o l e) ∙ (let z : 0 + i
 
 -- ---- tails
 
-tail-at : (gs : List ℕ) (i j : ℕ) (fresh : List ℕ) → tailsOk gs j fresh ≡ true → i < length gs → allZero (drop (commitLength (getD gs i 0)) (freshAt fresh (j + i))) ≡ true
+tail-at : (gs : List ℕ) (i j : ℕ) (fresh : List (List ℕ)) → tailsOk gs j fresh ≡ true → i < length gs → allZero (drop (commitLength (getD gs i 0)) (freshAt fresh (j + i))) ≡ true
 unfolding tailsOk
 tail-at [] i j fresh o l = absurd (omega arith)
 tail-at (x ∷ xs) zero j fresh o l = let z : j + 0 ≡ j = omega arith in rw z (and-left _ _ o)
@@ -69,18 +70,23 @@ padded-of g c l z =
     let d : length (drop (commitLength g) c) ≡ width - commitLength g = length-drop (commitLength g) c ∙ ap (λ (x : ℕ). x - commitLength g) l in
     rw m (ap (λ (x : List ℕ). take (commitLength g) c ++ x) (sym (zero-is _ _ d z)) ∙ take-append-drop (commitLength g) c)
 
-module _ (gs fresh : List ℕ) (k : allKnown gs ≡ true) (o : eachOnce gs ≡ true) (w : freshOk gs fresh ≡ true) where
-  fresh-length : length fresh ≡ width * length gs
-  unfolding freshOk
-  fresh-length = eqb-true _ _ (and-left _ _ w)
+-- the octets s are a stock of width W for the listed groups
+module _ (W : ℕ) (gs s : List ℕ) (low : 1 ≤ W) (high : W ≤ width) (some : 0 < length gs) (k : allKnown gs ≡ true) (o : eachOnce gs ≡ true) (w : freshOk W gs s ≡ true) where
+  abbrev fresh : List (List ℕ)
+  fresh = freshOf W s
 
   fresh-tails : tailsOk gs 0 fresh ≡ true
   unfolding freshOk
-  fresh-tails = and-right (eqb (length fresh) (width * length gs)) _ w
+  fresh-tails = and-right (eqb (length s) (W * length gs)) _ w
+
+  -- a commit for each listed group: the stock's length tells the width
+  pub same-stock : (c : Call) → stockOf c ≡ s → stockIn gs c ≡ fresh
+  same-stock c e = rw (e, fresh-length W gs s w, mul-div-cancel W some) refl
 
   at-length : (i : ℕ) → i < length gs → length (freshAt fresh i) ≡ width
-  unfolding freshAt
-  at-length i l = length-part fresh (width * i) width (omega (arith, fresh-length))
+  at-length i l =
+      let m : W * suc i ≤ W * length gs = mul-le-mul-left W l in
+      fresh-width W i s low high (omega (arith, m, mul-suc W i, fresh-length W gs s w))
 
   padded-at : (i g : ℕ) → i < length gs → getD gs i 0 ≡ g → stored (take (commitLength g) (freshAt fresh i)) ≡ freshAt fresh i
   padded-at i g l e =
@@ -92,26 +98,26 @@ module _ (gs fresh : List ℕ) (k : allKnown gs ≡ true) (o : eachOnce gs ≡ t
   unfolding known
   known-some g l = ne-eqb g 0 (λ e. clash (listed-known gs g k l) (rw e))
 
-  afresh-at : (c : Call) → stockOf c ≡ fresh → (i g : ℕ) → i < length gs → getD gs i 0 ≡ g → Afresh gs c g (freshAt fresh i)
+  afresh-at : (c : Call) → stockOf c ≡ s → (i g : ℕ) → i < length gs → getD gs i 0 ≡ g → Afresh gs c g (freshAt fresh i)
   unfolding freshFor
-  afresh-at c s i g l e = record {
-    some = known-some g (listed-at gs i g l e);
-    stock = rw (s, index-of gs i g o l e);
-    padded = padded-at i g l e;
+  afresh-at c e i g l q = record {
+    some = known-some g (listed-at gs i g l q);
+    stock = rw (same-stock c e, index-of gs i g o l q) refl;
+    padded = padded-at i g l q;
   }
 
   found-at : (g : ℕ) (f : Found) → place gs g ≡ f → listed gs g ≡ true → (i : ℕ) × (place gs g ≡ found.At i)
   found-at g (found.At i) e l = (i, e)
   found-at g found.Nothing e l = absurd (clash l (listed-place gs g ∙ rw e))
 
-  pub stocked : (c : Call) → stockOf c ≡ fresh → Stocked gs c
+  pub stocked : (c : Call) → stockOf c ≡ s → Stocked gs c
   unfolding freshFor
-  stocked c s = record {
+  stocked c e = record {
     group = λ g l.
         let f = found-at g (place gs g) refl l in
         let q = place-at gs g (f .0) (f .1) in
-        subst (Afresh gs c g) (rw (s, index-of gs (f .0) g o (q .0) (q .1))) (afresh-at c s (f .0) g (q .0) (q .1));
-    place = λ i g l e. subst (λ (x : List ℕ). Afresh gs c g (freshAt x i)) (sym s) (afresh-at c s i g l e);
+        subst (Afresh gs c g) (rw (same-stock c e, index-of gs (f .0) g o (q .0) (q .1)) refl) (afresh-at c e (f .0) g (q .0) (q .1));
+    place = λ i g l q. subst (λ (x : List (List ℕ)). Afresh gs c g (freshAt x i)) (sym (same-stock c e)) (afresh-at c e i g l q);
   }
 
 -- ---- what a sound table says of its groups
@@ -121,6 +127,4 @@ pub record Listing (gs : List ℕ) : Type 0 where
   pub once : eachOnce gs ≡ true
 
 pub sound-listing : (t : List ℕ) → sound t ≡ true → Listing (groupsIn t)
-sound-listing t s =
-    let g = groups-form _ _ (settings-form _ (header-form _ (sound-header t s) .settings) .groups) in
-    record { known = g .known; once = g .once }
+sound-listing t s = let g = header-groups _ (sound-header t s) in record { known = g .known; once = g .once }

@@ -4,12 +4,13 @@
 use mathlib.Core.Path.{_≡_}
 use mathlib.Core.Bool.{Bool, true, false, not, _&&_, _||_}
 use mathlib.Core.List.{List, [], _∷_}
-use Prim.Native.Nat.{ℕ}
+use Prim.Native.Nat.{ℕ, _/_}
+use lib.ListN.{length}
 use Rattle.protocol.specs.Model.{Side, Commit}
 use Rattle.protocol.specs.Repeats.{Tally, begun, more}
 use Rattle.octets.specs.Scan.{if_then_else_}
 use Rattle.octets.specs.Octets.{sameAddress}
-use Rattle.groups.specs.Groups.{freshFor}
+use Rattle.groups.specs.Groups.{freshOf, freshFor}
 use Rattle.record.specs.Layout.{groupsOf, limitOf}
 use Rattle.table.specs.Table.{decodeTable}
 use Rattle.rules.specs.declared.Frame.{Frame}
@@ -89,6 +90,10 @@ stockOf (receive address time frame fresh expected verdict) = fresh
 stockOf (expire time) = []
 stockOf (write w) = []
 
+-- the stock as commits: one of the same width for each listed group
+abbrev pub stockIn : List ℕ → Call → List (List ℕ)
+stockIn groups c = freshOf (length (stockOf c) / length groups) (stockOf c)
+
 -- the frame's group and its commit, "filled with zeros as when stored"
 abbrev pub heard : List ℕ → Call → Commit
 heard groups c = record { group = message groups (frameOf c) .group; octets = message groups (frameOf c) .commit }
@@ -129,7 +134,7 @@ abbrev pub usesAfresh : Answer → Bool
 usesAfresh r = r .afresh isnt 0
 
 abbrev pub usedAfresh : List ℕ → Call → Answer → Commit
-usedAfresh groups c r = record { group = r .afresh; octets = freshFor groups (stockOf c) (r .afresh) }
+usedAfresh groups c r = record { group = r .afresh; octets = freshFor groups (stockIn groups c) (r .afresh) }
 
 -- "A frame call that answers a Confirm with counter 1 forms a pair"
 abbrev pub formsPair : Call → Answer → Bool

@@ -22,7 +22,7 @@ use Rattle.table.specs.Table.{Table, sound, encodeTable, decodeTable, placed, r
 use Rattle.table.specs.declared.Entry.the-variants.{At}
 use Rattle.table.proofs.Laws.{entry-absent, sound-whole, peers-held}
 use Rattle.table.proofs.Fit.{bytes-placed}
-use Rattle.table.proofs.Kept.{placed-same, placed-other}
+use Rattle.table.proofs.Kept.{good-storable, placed-same, placed-other}
 use Rattle.answers.specs.Answers.{ends, seating, finishAt, finishes, Left, turned, refuse, said}
 use Rattle.answers.specs.declared.Refusal.{Refusal}
 use Rattle.answers.specs.declared.Refusal.the-variants as why
@@ -125,7 +125,7 @@ module _ (t a : List ℕ) (b : Bytes t) (la : length a ≡ 6) (ba : Bytes a) (f 
     placed-finished = record {
       answer = rw (n, v) refl;
       sound = subst (λ (l : Left). sound (l .table) ≡ true) same-end (sound-here (Go f) (λ x. s) t a b la ba owed f k refl n v);
-      bytes = subst Bytes (sym table-is) (bytes-placed t (slots (decodeTable t)) k (s .peer) b (sound-whole t whole) (G .fits));
+      bytes = subst Bytes (sym table-is) (bytes-placed t (slots (decodeTable t)) k (s .peer) b (sound-whole t whole) (G .fits) (good-storable t (s .peer) whole (G .fits) (G .form)));
       header = subst (λ (T : Table). T .header ≡ counted (decodeTable t .header) (T .header .counts)) (sym read-again) (header-placed (decodeTable t) k (s .peer));
       here = there-now;
       elsewhere = λ c d. subst (λ (l : Left). look (decodeTable (l .table)) c ≡ look (decodeTable t) c) same-end (look-elsewhere (Go f) (λ x. s) t a b la ba owed f k refl n v c d);

@@ -14,15 +14,16 @@ use Rattle.octets.specs.declared.Found.{Found}
 use Rattle.octets.specs.declared.Found.the-variants as found
 use Rattle.groups.specs.Groups.{width}
 use Rattle.record.specs.declared.Peer.{Peer}
+use Rattle.record.specs.declared.Counts.{Counts}
 use Rattle.record.specs.Layout.{groupsOf, noPeer}
 use Rattle.record.proofs.Laws.{FitPeer}
 use Rattle.soundness.specs.Soundness.{highSync, peerOk}
 use Rattle.rules.specs.Book.{Step}
-use Rattle.table.specs.Table.{Table, entry, sound, encodeTable, decodeTable, placed, slot, slots, inUse, belongs, look, countsOf}
+use Rattle.table.specs.Table.{Table, entry, sound, encodeTable, decodeTable, placed, slot, slots, inUse, belongs, look, countsOf, usedCount, openCount}
 use Rattle.table.specs.declared.Entry.the-variants.{At}
 use Rattle.table.proofs.Laws.{entry-at, entry-absent, found-below, sound-whole, peers-held, none-holds, free-below-law}
 use Rattle.table.proofs.Fit.{fit-slot, fit-decoded}
-use Rattle.table.proofs.Kept.{Alone, sound-form, placed-sound, placed-decoded, placed-counts, look-other, look-same}
+use Rattle.table.proofs.Kept.{Alone, sound-form, good-storable, placed-sound, placed-decoded, placed-counts, look-other, look-same}
 use Rattle.answers.specs.Answers.{Left, ends, seating, finishAt, finishes, turned, refuse, refused, said}
 use Rattle.answers.specs.declared.Refusal.{Refusal}
 use Rattle.answers.specs.declared.Refusal.the-variants as why
@@ -115,7 +116,7 @@ module _ (w : Turn) (g : Found → Step) (t a : List ℕ) (b : Bytes t) (la : le
 
     -- what the call leaves, read again
     pub leaves : decodeTable (turned w g t a .table) ≡ placed (decodeTable t) k (g f .peer)
-    leaves = ap decodeTable placed-here ∙ placed-decoded t k (g f .peer) b whole (G f e .fits)
+    leaves = ap decodeTable placed-here ∙ placed-decoded t k (g f .peer) b whole (G f e .fits) (good-storable t (g f .peer) whole (G f e .fits) (G f e .form))
 
     alone : Alone (decodeTable t) k (g f .peer)
     alone i l d u = subst (λ (y : List ℕ). belongs y (slot (decodeTable t) i) ≡ false) (sym (G f e .own u)) (others-free t a f k b la ba (G f e .came) in-slot i l d)
@@ -138,6 +139,12 @@ module _ (w : Turn) (g : Found → Step) (t a : List ℕ) (b : Bytes t) (la : le
     -- THE COUNTS are true
     pub counts-true : decodeTable (turned w g t a .table) .header .counts ≡ countsOf (decodeTable (turned w g t a .table))
     counts-true = subst (λ (T : Table). T .header .counts ≡ countsOf T) (sym leaves) (placed-counts (decodeTable t) k (g f .peer) held)
+
+    pub counts-used : decodeTable (turned w g t a .table) .header .counts .used ≡ usedCount (decodeTable (turned w g t a .table))
+    counts-used = ap (λ (n : Counts). n .used) counts-true
+
+    pub counts-open : decodeTable (turned w g t a .table) .header .counts .opened ≡ openCount (decodeTable (turned w g t a .table))
+    counts-open = ap (λ (n : Counts). n .opened) counts-true
 
   -- SOUND tables stay sound, and every other address keeps its record, whatever the call did
   pub stays-sound : sound t ≡ true → sound (turned w g t a .table) ≡ true

@@ -127,13 +127,13 @@ pub fn say_nothing(address: [u8; 6]) -> Answer
 }
 
 // The slot where a call's record is or would be: that of its address, or the free one nearest the end.
-pub fn seat_of(t: &[u8], n: usize, f: Found) -> Found
-    requires { ⌜ Sized (now t) n ⌝ }
+pub fn seat_of(t: &[u8], w: usize, n: usize, f: Found) -> Found
+    requires { ⌜ Sized (now t) w n ⌝ }
     ensures { λ r. ⌜ r ≡ seating (decodeTable (now (t .entry))) f ⌝ }
 {
     match f {
         Found::At(k) => Found::At(k),
-        Found::Nothing => table::free_slot(t, n),
+        Found::Nothing => table::free_slot(t, w, n),
     }
 }
 

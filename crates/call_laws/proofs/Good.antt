@@ -15,16 +15,17 @@ use Rattle.octets.specs.declared.Found.the-variants as found
 use Rattle.octets.proofs.Laws.{length-part, bytes-part, bytes-append}
 use Rattle.octets.proofs.Scan.{clash, and-left, and-right, and-both, first-at}
 use Rattle.octets.proofs.Tests.{zero-zeros, same-address-refl}
-use Rattle.groups.specs.Groups.{width, listed, commitLength, scalarLength, elementLength, freshAt, tailsOk, freshOk}
+use Rattle.groups.specs.Groups.{width, listed, commitLength, scalarLength, elementLength, freshOf, freshAt, tailsOk, freshOk}
 use Rattle.groups.proofs.Laws.{commit-fits, stored-length, stored-tail, stored-bytes}
 use Rattle.frame.specs.Frame.{readBody, groupOf, tokenOf, scalarOf, elementOf, commitOf}
 use Rattle.frame.specs.declared.Body.{Body}
 use Rattle.frame.specs.declared.Body.the-variants as body
 use Rattle.frame.proofs.Shapes.{commit-shape, other-group-shape, token-request-shape, group-refusal-shape, confirm-shape, field-fits}
 use Rattle.record.specs.declared.Peer.{Peer}
-use Rattle.record.specs.Layout.{groupsOf, noPeer, decodeHeader, headerOf, factoryLimit, periodOf, limitOf}
+use Rattle.record.proofs.Laws.{form-width}
+use Rattle.record.specs.Layout.{formIn, widthIn, groupsOf, noPeer, decodeHeader, headerOf, factoryLimit, periodOf, limitOf}
 use Rattle.soundness.specs.Soundness.{usable, highSync, commitOk}
-use Rattle.soundness.proofs.Laws.{Groups, SettingsForm, header-form, settings-form, groups-form, groups-length}
+use Rattle.soundness.proofs.Laws.{Groups, SettingsForm, header-form, settings-form, header-groups, header-width, form-groups, groups-length}
 use Rattle.table.specs.Table.{Table, decodeTable, slot, slots, belongs, finds, lookBy, look, sound, entry, foundEntry}
 use Rattle.table.specs.declared.Entry.{Entry}
 use Rattle.table.specs.declared.Entry.the-variants as entry-is
@@ -45,7 +46,7 @@ use Rattle.answers.specs.declared.Turn.the-variants.{Refused, Go}
 use Rattle.answers.specs.Answers.{seating}
 use Rattle.answers.proofs.Laws.{Entered, old, new, clashed}
 use Rattle.answers.proofs.Theorems.{Good, found-address}
-use Rattle.calls.specs.Calls.{full, termsOf, clockOf, brings, noToken, admitStart, startTurn, startStep, killTurn, killStep, admitFrame, frameTurn, frameStep, dueSlot, clockStep}
+use Rattle.calls.specs.Calls.{full, termsOf, clockOf, freshIn, brings, noToken, admitStart, startTurn, startStep, killTurn, killStep, admitFrame, frameTurn, frameStep, dueSlot, clockStep}
 
 -- ---- the table's own address, groups and highest Sync
 
@@ -65,18 +66,18 @@ unfolding limitOf
 entry-limit x e = rw e
 
 module _ (t : List ℕ) (s : sound t ≡ true) where
-  settings : SettingsForm (decodeTable t .header .settings)
-  settings = settings-form _ (header-form _ (sound-header t s) .settings)
+  settings : SettingsForm (formIn (decodeTable t .header)) (decodeTable t .header .settings)
+  settings = settings-form _ _ (header-form _ (sound-header t s) .settings)
 
   three-groups : length (decodeTable t .header .settings .groups) ≡ 3
   unfolding decodeTable decodeHeader headerOf
   three-groups = refl
 
-  listed-groups : Groups (decodeTable t .header .settings .count) (decodeTable t .header .settings .groups)
-  listed-groups = groups-form _ _ (settings .groups)
+  listed-groups : Groups 2 (decodeTable t .header .settings .count) (decodeTable t .header .settings .groups)
+  listed-groups = header-groups _ (sound-header t s)
 
   pub groups-count : length (groupsIn t) ≡ decodeTable t .header .settings .count
-  groups-count = groups-length _ _ three-groups (settings .groups)
+  groups-count = groups-length _ _ _ (form-groups _) three-groups (settings .groups)
 
   -- the Sync limit is the factory's, and the highest Sync is in its octet's range
   pub factory-limit : limitOf (decodeTable t .header .settings .limit) ≡ factoryLimit
@@ -113,6 +114,10 @@ same-clock t u s w time =
     let p : decodeTable t .header .settings .period ≡ decodeTable u .header .settings .period = settings t s .period ∙ sym (settings u w .period) in
     let l : decodeTable t .header .settings .limit ≡ decodeTable u .header .settings .limit = settings t s .limit ∙ sym (settings u w .limit) in
     λ i. record { time = time; period = periodOf (p i); limit = limitOf (l i) }
+
+-- and of one width
+pub same-width : (t u : List ℕ) → sound t ≡ true → sound u ≡ true → widthIn (decodeTable t .header) ≡ widthIn (decodeTable u .header)
+same-width t u s w = header-width _ (sound-header t s) ∙ sym (header-width _ (sound-header u w))
 
 -- ---- what a call that goes on knows
 
@@ -157,7 +162,7 @@ unseated T found.Nothing e = (refl, rw e refl)
 
 -- ---- the stock
 
-tails-each : (gs : List ℕ) (i : ℕ) (fresh : List ℕ) → tailsOk gs i fresh ≡ true → (j : ℕ) → j < length gs → commitOk (getD gs j 0) (freshAt fresh (i + j)) ≡ true
+tails-each : (gs : List ℕ) (i : ℕ) (fresh : List (List ℕ)) → tailsOk gs i fresh ≡ true → (j : ℕ) → j < length gs → commitOk (getD gs j 0) (freshAt fresh (i + j)) ≡ true
 unfolding tailsOk commitOk
 tails-each [] i fresh e j h = absurd (omega arith)
 tails-each (g ∷ gs) i fresh e zero h = let z : i + 0 ≡ i = omega arith in rw z (and-left _ _ e)
@@ -165,11 +170,19 @@ tails-each (g ∷ gs) i fresh e (suc j) h =
     let z : i + suc j ≡ suc i + j = omega arith in
     rw z (tails-each gs (suc i) fresh (and-right (allZero (drop (commitLength g) (freshAt fresh i))) _ e) j (omega arith))
 
-pub commits-stock : (gs fresh : List ℕ) → Bytes fresh → freshOk gs fresh ≡ true → Stock gs fresh
+pub commits-stock : (W : ℕ) (gs fresh : List ℕ) → 1 ≤ W → W ≤ width → Bytes fresh → freshOk W gs fresh ≡ true → Stock gs (freshOf W fresh)
 unfolding freshOk
-commits-stock gs fresh b e =
-    stock-form gs fresh (eqb-true _ _ (and-left _ _ e)) b
-    (λ i h. let z : 0 + i ≡ i = omega arith in subst (λ (k : ℕ). commitOk (getD gs i 0) (freshAt fresh k) ≡ true) z (tails-each gs 0 fresh (and-right (eqb (length fresh) (width * length gs)) _ e) i h))
+commits-stock W gs fresh p m b e =
+    stock-form W gs fresh p m (eqb-true _ _ (and-left _ _ e)) b
+    (λ i h.
+    let z : 0 + i ≡ i = omega arith in
+    subst (λ (k : ℕ). commitOk (getD gs i 0) (freshAt (freshOf W fresh) k) ≡ true) z (tails-each gs 0 (freshOf W fresh) (and-right (eqb (length fresh) (W * length gs)) _ e) i h))
+
+-- of a sound table: its width stores something, and has room for every value
+table-stock : (t fresh : List ℕ) → sound t ≡ true → Bytes fresh → freshOk (widthIn (decodeTable t .header)) (groupsIn t) fresh ≡ true → Stock (groupsIn t) (freshIn (decodeTable t .header) fresh)
+table-stock t fresh s b e =
+    let w = header-width (decodeTable t .header) (sound-header t s) in
+    commits-stock (widthIn (decodeTable t .header)) (groupsIn t) fresh (omega (arith, w)) (form-width _) b e
 
 -- ---- what the rules see of a frame
 
@@ -280,18 +293,18 @@ past true c x f e = clashed e
 past false c x f e = (refl, e)
 
 pub admit-start : (T : Table) (g : Found) (fresh : List ℕ) (f : Found) → admitStart T g fresh ≡ Go f
-    → (g ≡ f) × (freshOk (groupsOf (T .header)) fresh ≡ true) × (lookBy T f .run .state ≡ 0)
+    → (g ≡ f) × (freshOk (widthIn (T .header)) (groupsOf (T .header)) fresh ≡ true) × (lookBy T f .run .state ≡ 0)
 unfolding admitStart
 admit-start T g fresh f e =
-    let a = past (not (freshOk (groupsOf (T .header)) fresh)) why.Fresh (if hasRun (lookBy T g) then Refused why.Running else Go g) f e in
+    let a = past (not (freshOk (widthIn (T .header)) (groupsOf (T .header)) fresh)) why.Fresh (if hasRun (lookBy T g) then Refused why.Running else Go g) f e in
     let b = past (hasRun (lookBy T g)) why.Running (Go g) f (a .1) in
     (go-same (b .1), not-false _ (a .0), subst (λ (x : Found). lookBy T x .run .state ≡ 0) (go-same (b .1)) (eqb-true _ _ (not-false _ (b .0))))
 
 pub admit-frame : (T : Table) (g : Found) (frame fresh expected : List ℕ) (verdict : ℕ) (f : Found) → admitFrame T g frame fresh expected verdict ≡ Go f
-    → (g ≡ f) × (freshOk (groupsOf (T .header)) fresh ≡ true)
+    → (g ≡ f) × (freshOk (widthIn (T .header)) (groupsOf (T .header)) fresh ≡ true)
 unfolding admitFrame
 admit-frame T g frame fresh expected verdict f e =
-    let a = past (not (freshOk (groupsOf (T .header)) fresh)) why.Fresh _ f e in
+    let a = past (not (freshOk (widthIn (T .header)) (groupsOf (T .header)) fresh)) why.Fresh _ f e in
     let b = past (not (eqb (length expected) 32)) why.Token _ f (a .1) in
     let c = past (ltb 1 verdict) why.Verdict _ f (b .1) in
     let d = past (view (groupsOf (T .header)) frame .sequence is 0) why.Body (Go g) f (c .1) in
@@ -299,7 +312,7 @@ admit-frame T g frame fresh expected verdict f e =
 
 module _ (t a : List ℕ) where
   pub start-entered : (fresh : List ℕ) (E : Entry) (f : Found) → entry t a ≡ E → startTurn E t fresh ≡ Go f
-      → Entered t a f × (freshOk (groupsIn t) fresh ≡ true) × (lookBy (decodeTable t) f .run .state ≡ 0)
+      → Entered t a f × (freshOk (widthIn (decodeTable t .header)) (groupsIn t) fresh ≡ true) × (lookBy (decodeTable t) f .run .state ≡ 0)
   unfolding startTurn
   start-entered fresh entry-is.Unsound f q e = clashed e
   start-entered fresh entry-is.Unusable f q e = clashed e
@@ -314,7 +327,7 @@ module _ (t a : List ℕ) where
   kill-entered (entry-is.At k) f q e = subst (Entered t a) (go-same e) (old q)
 
   pub frame-entered : (frame fresh expected : List ℕ) (verdict : ℕ) (E : Entry) (f : Found) → entry t a ≡ E → frameTurn E t frame fresh expected verdict ≡ Go f
-      → Entered t a f × (freshOk (groupsIn t) fresh ≡ true)
+      → Entered t a f × (freshOk (widthIn (decodeTable t .header)) (groupsIn t) fresh ≡ true)
   unfolding frameTurn
   frame-entered frame fresh expected verdict entry-is.Unsound f q e = clashed e
   frame-entered frame fresh expected verdict entry-is.Unusable f q e = clashed e
@@ -336,10 +349,10 @@ initiate-good t a time fresh f b la ba ht bf e =
     let w = start-entered t a fresh (entry t a) f refl e in
     let s = entered-sound t a f (w .0) in
     let T = termsOf (decodeTable t) f in
-    let C = brings a (clockOf (decodeTable t .header) time) fresh noToken false in
+    let C = brings a (clockOf (decodeTable t .header) time) (freshIn (decodeTable t .header) fresh) noToken false in
     good-of t a f _ (w .0)
     (begin-keeps T C (lookBy (decodeTable t) f) (entered-place t a b la ba f (w .0)) (sound-lists t s) (first-listed t s .0) (high-low t s) (entered-kept t a b la ba f (w .0))
-    (commits-stock (groupsIn t) fresh bf (w .1)) (no-run _ (w .2)))
+    (table-stock t fresh s bf (w .1)) (no-run _ (w .2)))
     (λ v n. absurd (clash (start-refused T C (lookBy (decodeTable t) f) ∙ unseated (decodeTable t) f v .1) n))
 
 -- Kill
@@ -356,7 +369,7 @@ receive-good t a time frame fresh expected verdict f b la ba ht br bf be hv e =
     let w = frame-entered t a frame fresh expected verdict (entry t a) f refl e in
     let s = entered-sound t a f (w .0) in
     let T = termsOf (decodeTable t) f in
-    let C = brings a (clockOf (decodeTable t .header) time) fresh expected (verdict is 1) in
+    let C = brings a (clockOf (decodeTable t .header) time) (freshIn (decodeTable t .header) fresh) expected (verdict is 1) in
     let p = lookBy (decodeTable t) f in
     let m = message (groupsIn t) frame in
     let h : Handed T C m = record {
@@ -367,7 +380,7 @@ receive-good t a time frame fresh expected verdict f b la ba ht br bf be hv e =
       counter = viewed (groupsIn t) frame br .counter;
       low = high-low t s;
     } in
-    good-of t a f _ (w .0) (frame-keeps T C p m h (entered-kept t a b la ba f (w .0)) (commits-stock (groupsIn t) fresh bf (w .1)))
+    good-of t a f _ (w .0) (frame-keeps T C p m h (entered-kept t a b la ba f (w .0)) (table-stock t fresh s bf (w .1)))
     (λ v n. let u = unseated (decodeTable t) f v in frame-unseated T C p m (u .0) (u .1) n)
 
 -- Clock: the record that is due is in use

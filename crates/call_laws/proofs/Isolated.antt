@@ -15,7 +15,7 @@ use Rattle.octets.proofs.Scan.{clash, and-left}
 use Rattle.groups.specs.Groups.{freshOk}
 use Rattle.record.specs.declared.Peer.{Peer}
 use Rattle.record.specs.declared.Settings.{Settings}
-use Rattle.record.specs.Layout.{groupsOf, noPeer}
+use Rattle.record.specs.Layout.{widthIn, groupsOf, noPeer}
 use Rattle.soundness.specs.Soundness.{usable}
 use Rattle.table.specs.Table.{Table, decodeTable, slot, belongs, finds, lookBy, look, sound, entry}
 use Rattle.table.specs.Initial.{slotsFor, initialOk, initialTable}
@@ -35,7 +35,7 @@ use Rattle.answers.proofs.Ending.{Turned, denied, done, turn-ends}
 use Rattle.writer.specs.Writer.{writesParts, writesRecordBy, writesRecord}
 use Rattle.calls.specs.Calls.{termsOf, clockOf, initializes, admitStart, startTurn, startStep, initiates, killTurn, killStep, kills, admitFrame, frameTurn, frameStep, receives, dueSlot, clockStep, expires}
 use Rattle.call_laws.specs.Alike.{SameFor, Alike}
-use Rattle.call_laws.proofs.Good.{same-clock, initiate-good, kill-good, receive-good}
+use Rattle.call_laws.proofs.Good.{same-clock, same-width, initiate-good, kill-good, receive-good}
 use Rattle.call_laws.proofs.Ends.{Came, came, unsound, unusable, lacks, has, finish-answer, said-not, dueLeft, due-answer, takes, clock-ends}
 
 -- ---- both tables come to the same
@@ -137,25 +137,29 @@ terms-same t u a A f k n = go _ _ _ _ _ _ _ _ _ _ (A .same .own) (A .same .group
 
 -- ---- Start
 
-admit-start-paired : (g h : Found → Step) (T U : Table) (f k : Found) (fresh : List ℕ) → groupsOf (T .header) ≡ groupsOf (U .header) → lookBy T f ≡ lookBy U k → g f ≡ h k
+admit-start-paired : (g h : Found → Step) (T U : Table) (f k : Found) (fresh : List ℕ) → groupsOf (T .header) ≡ groupsOf (U .header) → widthIn (T .header) ≡ widthIn (U .header) → lookBy T f ≡ lookBy U k → g f ≡ h k
     → Paired g h (admitStart T f fresh) (admitStart U k fresh)
 unfolding admitStart
-admit-start-paired g h T U f k fresh p q e =
-    rw (p, q) (paired-if g h (not (freshOk (groupsOf (U .header)) fresh)) why.Fresh _ _ (paired-if g h (hasRun (lookBy U k)) why.Running (Go f) (Go k) (both-go e)))
+admit-start-paired g h T U f k fresh p w q e =
+    rw (p, w, q) (paired-if g h (not (freshOk (widthIn (U .header)) (groupsOf (U .header)) fresh)) why.Fresh _ _ (paired-if g h (hasRun (lookBy U k)) why.Running (Go f) (Go k) (both-go e)))
 
 module _ (t u a : List ℕ) (A : Alike t u a) where
   start-same : (time : ℕ) (fresh : List ℕ) (f k : Found) → isNothing f ≡ isNothing k → lookBy (decodeTable t) f ≡ lookBy (decodeTable u) k
       → startStep (decodeTable t) f a time fresh ≡ startStep (decodeTable u) k a time fresh
   unfolding startStep
-  start-same time fresh f k n q = let e = terms-same t u a A f k n in let κ = same-clock t u (A .same .sound₁) (A .same .sound₂) time in rw (q, e, κ)
+  start-same time fresh f k n q =
+      let e = terms-same t u a A f k n in
+      let κ = same-clock t u (A .same .sound₁) (A .same .sound₂) time in
+      let w = same-width t u (A .same .sound₁) (A .same .sound₂) in
+      rw (q, e, κ, w)
 
   start-paired : (time : ℕ) (fresh : List ℕ) (E F : Entry) → Met t u a E F
       → Paired (λ f. startStep (decodeTable t) f a time fresh) (λ f. startStep (decodeTable u) f a time fresh) (startTurn E t fresh) (startTurn F u fresh)
   unfolding startTurn lookBy
   start-paired time fresh E F neither = both-refuse
-  start-paired time fresh E F lack-both = admit-start-paired _ _ (decodeTable t) (decodeTable u) found.Nothing found.Nothing fresh (A .same .groups) refl (start-same time fresh found.Nothing found.Nothing refl refl)
+  start-paired time fresh E F lack-both = admit-start-paired _ _ (decodeTable t) (decodeTable u) found.Nothing found.Nothing fresh (A .same .groups) (same-width t u (A .same .sound₁) (A .same .sound₂)) refl (start-same time fresh found.Nothing found.Nothing refl refl)
   start-paired time fresh E F (have-both {k} {j} q) =
-      admit-start-paired _ _ (decodeTable t) (decodeTable u) (found.At k) (found.At j) fresh (A .same .groups) q (start-same time fresh (found.At k) (found.At j) refl q)
+      admit-start-paired _ _ (decodeTable t) (decodeTable u) (found.At k) (found.At j) fresh (A .same .groups) (same-width t u (A .same .sound₁) (A .same .sound₂)) q (start-same time fresh (found.At k) (found.At j) refl q)
 
 pub initiate-isolated : (t u a : List ℕ) (time : ℕ) (fresh : List ℕ) → Bytes t → Bytes u → length a ≡ 6 → Bytes a → time < 2 ^ 32 → Bytes fresh → Alike t u a
     → Isolated a (initiates t a time fresh) (initiates u a time fresh)
@@ -182,12 +186,12 @@ kill-isolated t u a bt bu la ba S =
 
 -- ---- Frame received
 
-admit-frame-paired : (g h : Found → Step) (T U : Table) (f k : Found) (frame fresh expected : List ℕ) (verdict : ℕ) → groupsOf (T .header) ≡ groupsOf (U .header) → g f ≡ h k
+admit-frame-paired : (g h : Found → Step) (T U : Table) (f k : Found) (frame fresh expected : List ℕ) (verdict : ℕ) → groupsOf (T .header) ≡ groupsOf (U .header) → widthIn (T .header) ≡ widthIn (U .header) → g f ≡ h k
     → Paired g h (admitFrame T f frame fresh expected verdict) (admitFrame U k frame fresh expected verdict)
 unfolding admitFrame
-admit-frame-paired g h T U f k frame fresh expected verdict p e =
-    rw p
-    (paired-if g h (not (freshOk (groupsOf (U .header)) fresh)) why.Fresh _ _
+admit-frame-paired g h T U f k frame fresh expected verdict p w e =
+    rw (p, w)
+    (paired-if g h (not (freshOk (widthIn (U .header)) (groupsOf (U .header)) fresh)) why.Fresh _ _
     (paired-if g h (not (eqb (length expected) 32)) why.Token _ _
     (paired-if g h (ltb 1 verdict) why.Verdict _ _
     (paired-if g h (view (groupsOf (U .header)) frame .sequence is 0) why.Body (Go f) (Go k) (both-go e)))))
@@ -200,7 +204,8 @@ module _ (t u a : List ℕ) (A : Alike t u a) (time : ℕ) (frame fresh expected
       let e = terms-same t u a A f k n in
       let κ = same-clock t u (A .same .sound₁) (A .same .sound₂) time in
       let g = A .same .groups in
-      rw (q, e, κ, g)
+      let w = same-width t u (A .same .sound₁) (A .same .sound₂) in
+      rw (q, e, κ, g, w)
 
   frame-paired : (E F : Entry) → Met t u a E F
       → Paired (λ f. frameStep (decodeTable t) f a time frame fresh expected verdict) (λ f. frameStep (decodeTable u) f a time frame fresh expected verdict)
@@ -208,10 +213,10 @@ module _ (t u a : List ℕ) (A : Alike t u a) (time : ℕ) (frame fresh expected
   unfolding frameTurn lookBy
   frame-paired E F neither = both-refuse
   frame-paired E F lack-both =
-      admit-frame-paired _ _ (decodeTable t) (decodeTable u) found.Nothing found.Nothing frame fresh expected verdict (A .same .groups)
+      admit-frame-paired _ _ (decodeTable t) (decodeTable u) found.Nothing found.Nothing frame fresh expected verdict (A .same .groups) (same-width t u (A .same .sound₁) (A .same .sound₂))
       (frame-same found.Nothing found.Nothing refl refl)
   frame-paired E F (have-both {k} {j} q) =
-      admit-frame-paired _ _ (decodeTable t) (decodeTable u) (found.At k) (found.At j) frame fresh expected verdict (A .same .groups)
+      admit-frame-paired _ _ (decodeTable t) (decodeTable u) (found.At k) (found.At j) frame fresh expected verdict (A .same .groups) (same-width t u (A .same .sound₁) (A .same .sound₂))
       (frame-same (found.At k) (found.At j) refl q)
 
 pub receive-isolated : (t u a : List ℕ) (time : ℕ) (frame fresh expected : List ℕ) (verdict : ℕ) → Bytes t → Bytes u → length a ≡ 6 → Bytes a → time < 2 ^ 32

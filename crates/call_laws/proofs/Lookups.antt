@@ -16,13 +16,13 @@ use Rattle.octets.proofs.Scan.{clash, and-left, and-right, first-at, first-noth
 use Rattle.octets.proofs.Tests.{same-address}
 use Rattle.groups.specs.Groups.{width}
 use Rattle.record.specs.declared.Peer.{Peer}
-use Rattle.record.specs.Layout.{decodePeer, noRun, noLink, noPeer}
+use Rattle.record.specs.Layout.{decodePeer, recordSize, recordAt, noRun, noLink, noPeer}
 use Rattle.record.proofs.Laws.{FitPeer, shape-peer}
 use Rattle.soundness.proofs.Laws.{peer-unused, peer-in-use}
-use Rattle.table.specs.Table.{Table, size, decodeTable, slots, slot, inUse, belongs, finds, lookBy, look, sound, entry, foundEntry}
+use Rattle.table.specs.Table.{Table, widthOf, decodeTable, slots, slot, inUse, belongs, finds, lookBy, look, sound, entry, foundEntry}
 use Rattle.table.specs.declared.Entry.{Entry}
 use Rattle.table.proofs.Laws.{sound-whole, sound-peer, peers-held, found-below, ready}
-use Rattle.table.proofs.Octets.{window-law}
+use Rattle.table.proofs.Octets.{recordIn, slot-at, after-header}
 use Rattle.table.proofs.Fit.{fit-decoded, fit-slot}
 use Rattle.rules.specs.Book.{hasRun, hasLink, expired}
 use Rattle.answers.specs.declared.Refusal.the-variants as why
@@ -55,14 +55,14 @@ pub next-deadline-exact : (t : List ℕ) (time : ℕ) → Exact (askedReturned (
 next-deadline-exact t time = exact askedReturned asked.Refused _ (clockCauses t) _ (λ c. refl) refl (clock-rises t) (next-deadline-refuses t time)
 
 find-refuses-by : (t a : List ℕ) (E : Entry) → Came t a E
-    → offsetBy E ≡ firstCause asked.Refused (findCauses t a) (offsetBy (foundEntry (finds (decodeTable t) a)))
+    → offsetBy E (widthOf t) ≡ firstCause asked.Refused (findCauses t a) (offsetBy (foundEntry (finds (decodeTable t) a)) (widthOf t))
 unfolding offsetBy firstCause findCauses foundEntry
 find-refuses-by t a E (unsound s) = rw s
 find-refuses-by t a E (unusable s u) = rw (s, u)
 find-refuses-by t a E (lacks s u f) = rw (s, u, f)
 find-refuses-by t a E (has s u f) = rw (s, u, f)
 
-pub find-refuses : (t a : List ℕ) → asksOffset t a ≡ firstCause asked.Refused (findCauses t a) (offsetBy (foundEntry (finds (decodeTable t) a)))
+pub find-refuses : (t a : List ℕ) → asksOffset t a ≡ firstCause asked.Refused (findCauses t a) (offsetBy (foundEntry (finds (decodeTable t) a)) (widthOf t))
 unfolding asksOffset
 find-refuses t a = find-refuses-by t a (entry t a) (came t a)
 
@@ -70,14 +70,14 @@ find-rises : (t a : List ℕ) → rising 0 (findCauses t a) ≡ true
 unfolding rising findCauses
 find-rises t a = refl
 
-offset-answers : (f : Found) → askedReturned (offsetBy (foundEntry f)) ≡ 0
+offset-answers : (f : Found) (W : ℕ) → askedReturned (offsetBy (foundEntry f) W) ≡ 0
 unfolding offsetBy foundEntry
-offset-answers (found.At k) = refl
-offset-answers found.Nothing = refl
+offset-answers (found.At k) W = refl
+offset-answers found.Nothing W = refl
 
 pub find-exact : (t a : List ℕ) → Exact (askedReturned (asksOffset t a)) (findCauses t a)
 find-exact t a =
-    exact askedReturned asked.Refused _ (findCauses t a) _ (λ c. refl) (offset-answers (finds (decodeTable t) a)) (find-rises t a) (find-refuses t a)
+    exact askedReturned asked.Refused _ (findCauses t a) _ (λ c. refl) (offset-answers (finds (decodeTable t) a) (widthOf t)) (find-rises t a) (find-refuses t a)
 
 -- ---- the next deadline against the clock call
 
@@ -143,7 +143,7 @@ next-low t time k l = least-low (leftAt t time) (slots (decodeTable t)) k l
 module _ (t : List ℕ) (b : Bytes t) (s : sound t ≡ true) where
   slot-fits : (k : ℕ) → k < slots (decodeTable t) → FitPeer width (peerAt t k)
   slot-fits k l =
-      let w : length t ≡ 32 + size * slots (decodeTable t) = sound-whole t s in
+      let w : length t ≡ recordAt (widthOf t) (slots (decodeTable t)) = sound-whole t s in
       let n : length (decodeTable t .peers) ≡ slots (decodeTable t) = peers-held t (slots (decodeTable t)) w in
       fit-slot (decodeTable t) k (fit-decoded t (slots (decodeTable t)) b w) (omega arith)
 
@@ -251,44 +251,43 @@ module _ (t : List ℕ) (b : Bytes t) (time : ℕ) (h : time < 2 ^ 32) where
 
 -- the record of the address lies there: within the table, its octets those of the record that is found, in use, and its address the one asked for
 pub record Lies (t a : List ℕ) (n : ℕ) : Type 0 where
-  pub inside : n + size ≤ length t
-  pub octets : decodePeer width (part t n size) ≡ look (decodeTable t) a
+  pub inside : n + recordSize (widthOf t) ≤ length t
+  pub octets : decodePeer (widthOf t) (part t n (recordSize (widthOf t))) ≡ look (decodeTable t) a
   pub in-use : inUse (look (decodeTable t) a) ≡ true
   pub address : look (decodeTable t) a .address ≡ a
 
 module _ (t a : List ℕ) (b : Bytes t) (c : Bytes a) (l : length a ≡ 6) where
-  lies-at : (k : ℕ) → sound t ≡ true → finds (decodeTable t) a ≡ found.At k → Lies t a (32 + size * k)
-  unfolding belongs part lookBy
+  lies-at : (k : ℕ) → sound t ≡ true → finds (decodeTable t) a ≡ found.At k → Lies t a (recordAt (widthOf t) k)
+  unfolding belongs lookBy recordIn
   lies-at k s f =
       let w = found-below (decodeTable t) a k f in
       let r = ready t s k (w .0) in
       let q : slot (decodeTable t) k ≡ look (decodeTable t) a = look-found (decodeTable t) a (found.At k) f in
       let g = slot-fits t b s k (w .0) in
       let m : slot (decodeTable t) k .address ≡ a = same-address _ a (g .address ∙ sym l) (g .bytes) c (and-right (inUse (slot (decodeTable t) k)) _ (w .1)) in
-      let z : size ≡ 32 + size * k + size - (32 + size * k) = omega arith in
       record {
         inside = r .fits;
-        octets = ap (λ (n : ℕ). decodePeer width (take n (drop (32 + size * k) t))) z ∙ window-law t k (r .fits) ∙ q;
+        octets = sym (slot-at t k (r .fits)) ∙ q;
         in-use = rw (← q) (and-left _ _ (w .1));
         address = rw (← q) m;
       }
 
-  zero-by : (n : ℕ) (E : Entry) → Came t a E → offsetBy E ≡ asked.Number n → Iff (n ≡ 0) (absent (decodeTable t) a ≡ true)
+  zero-by : (n : ℕ) (E : Entry) → Came t a E → offsetBy E (widthOf t) ≡ asked.Number n → Iff (n ≡ 0) (absent (decodeTable t) a ≡ true)
   unfolding offsetBy absent
   zero-by n E (unsound s) e = let z : _≡_ {A = ℕ} 0 1 = cc in absurd (omega arith)
   zero-by n E (unusable s u) e = let z : _≡_ {A = ℕ} 0 1 = cc in absurd (omega arith)
   zero-by n E (lacks s u f) e = record { to = λ z. rw f; from = λ z. cc }
   zero-by n E (has {k} s u f) e =
-      let q : 32 + size * k ≡ n = cc in
+      let q : recordAt (widthOf t) k ≡ n = cc in
       let y : isNothing (finds (decodeTable t) a) ≡ false = rw f in
-      record { to = λ z. absurd (omega arith); from = λ z. absurd (clash z y) }
+      record { to = λ z. absurd (omega (arith, after-header (widthOf t) k)); from = λ z. absurd (clash z y) }
 
-  lies-by : (n : ℕ) (E : Entry) → Came t a E → offsetBy E ≡ asked.Number n → (n ≡ 0 → ⊥) → Lies t a n
+  lies-by : (n : ℕ) (E : Entry) → Came t a E → offsetBy E (widthOf t) ≡ asked.Number n → (n ≡ 0 → ⊥) → Lies t a n
   unfolding offsetBy
   lies-by n E (unsound s) e d = let z : _≡_ {A = ℕ} 0 1 = cc in absurd (omega arith)
   lies-by n E (unusable s u) e d = let z : _≡_ {A = ℕ} 0 1 = cc in absurd (omega arith)
   lies-by n E (lacks s u f) e d = absurd (d (cc))
-  lies-by n E (has {k} s u f) e d = let q : 32 + size * k ≡ n = cc in subst (Lies t a) q (lies-at k s f)
+  lies-by n E (has {k} s u f) e d = let q : recordAt (widthOf t) k ≡ n = cc in subst (Lies t a) q (lies-at k s f)
 
   module _ (n : ℕ) (e : asksOffset t a ≡ asked.Number n) where
     -- 0 EXACTLY if the address has no record

@@ -16,7 +16,7 @@ use Rattle.groups.specs.Groups.{freshOk}
 use Rattle.frame.specs.Writing.{Drawn, Octets, Outside, partsBody, written, leaves}
 use Rattle.frame.specs.declared.Written.the-variants as written-is
 use Rattle.record.specs.declared.Settings.{Settings}
-use Rattle.record.specs.Layout.{groupsOf}
+use Rattle.record.specs.Layout.{widthIn, groupsOf}
 use Rattle.table.specs.Table.{Table, decodeTable, slot, finds, lookBy, look, sound, entry}
 use Rattle.table.specs.Initial.{slotsFor, initialOk, initialTable}
 use Rattle.table.specs.declared.Entry.{Entry}
@@ -144,13 +144,13 @@ initialize-refuses t own s = go (initialOk s own (length t))
 
 start-outcome : (t a fresh : List ℕ) (time : ℕ) (f : Found) → finds (decodeTable t) a ≡ f
     → turned (admitStart (decodeTable t) f fresh) (λ g. startStep (decodeTable t) g a time fresh) t a .answer .outcome
-    ≡ (if not (freshOk (groupsOf (decodeTable t .header)) fresh) then outcome.Refused why.Fresh
+    ≡ (if not (freshOk (widthIn (decodeTable t .header)) (groupsOf (decodeTable t .header)) fresh) then outcome.Refused why.Fresh
     else if hasRun (look (decodeTable t) a) then outcome.Refused why.Running
     else if absent (decodeTable t) a && full (decodeTable t) then outcome.Refused why.Full
     else outcome.Done)
 unfolding admitStart startStep absent
 start-outcome t a fresh time f e =
-    outcome-if _ t a (not (freshOk (groupsOf (decodeTable t .header)) fresh)) why.Fresh _ _
+    outcome-if _ t a (not (freshOk (widthIn (decodeTable t .header)) (groupsOf (decodeTable t .header)) fresh)) why.Fresh _ _
     (rw (← look-found (decodeTable t) a f e, e) (outcome-if _ t a (hasRun (lookBy (decodeTable t) f)) why.Running (Go f) _
     (go-outcome _ t a f ∙ ap (λ (b : Bool). if b then outcome.Refused why.Full else outcome.Done) (start-refused _ _ (lookBy (decodeTable t) f)))))
 
@@ -203,7 +203,7 @@ frame-full t a time frame fresh expected verdict f e =
 
 frame-outcome : (t a : List ℕ) (time : ℕ) (frame fresh expected : List ℕ) (verdict : ℕ) (f : Found) → finds (decodeTable t) a ≡ f
     → turned (admitFrame (decodeTable t) f frame fresh expected verdict) (λ g. frameStep (decodeTable t) g a time frame fresh expected verdict) t a .answer .outcome
-    ≡ (if not (freshOk (groupsOf (decodeTable t .header)) fresh) then outcome.Refused why.Fresh
+    ≡ (if not (freshOk (widthIn (decodeTable t .header)) (groupsOf (decodeTable t .header)) fresh) then outcome.Refused why.Fresh
     else if not (eqb (length expected) 32) then outcome.Refused why.Token
     else if ltb 1 verdict then outcome.Refused why.Verdict
     else if view (groupsOf (decodeTable t .header)) frame .sequence is 0 then outcome.Refused why.Body
@@ -211,7 +211,7 @@ frame-outcome : (t a : List ℕ) (time : ℕ) (frame fresh expected : List ℕ) 
     else outcome.Done)
 unfolding admitFrame
 frame-outcome t a time frame fresh expected verdict f e =
-    outcome-if _ t a (not (freshOk (groupsOf (decodeTable t .header)) fresh)) why.Fresh _ _
+    outcome-if _ t a (not (freshOk (widthIn (decodeTable t .header)) (groupsOf (decodeTable t .header)) fresh)) why.Fresh _ _
     (outcome-if _ t a (not (eqb (length expected) 32)) why.Token _ _
     (outcome-if _ t a (ltb 1 verdict) why.Verdict _ _
     (outcome-if _ t a (view (groupsOf (decodeTable t .header)) frame .sequence is 0) why.Body (Go f) _

@@ -15,12 +15,13 @@ use Rattle.octets.specs.declared.Found.the-variants as found
 use Rattle.octets.proofs.Scan.{clash, cases}
 use Rattle.record.specs.declared.Counts.{Counts}
 use Rattle.record.specs.declared.Settings.{Settings}
-use Rattle.record.proofs.Laws.{shape-peer}
-use Rattle.table.specs.Table.{size, decodeTable, slot, slots, inUse, belongs, look, placed, sound}
+use Rattle.record.specs.Layout.{recordSize, recordAt}
+use Rattle.record.proofs.Laws.{shape-peer, record-below}
+use Rattle.table.specs.Table.{widthOf, decodeTable, slot, slots, inUse, belongs, look, placed, sound}
 use Rattle.table.specs.Initial.{initialOk}
 use Rattle.table.proofs.Laws.{entry-at, found-below, sound-whole, free-below-law}
 use Rattle.table.proofs.Kept.{sound-form}
-use Rattle.table.proofs.Octets.{placed-outside}
+use Rattle.table.proofs.Octets.{after-header, placed-outside}
 use Rattle.table.proofs.Initial.{FitSettings, initial-sound, initial-refused}
 use Rattle.rules.specs.Book.{Step}
 use Rattle.answers.specs.declared.Refusal.{Refusal}
@@ -50,7 +51,7 @@ pub record Keeping (t a u : List ℕ) : Type 0 where
   pub elsewhere : (c : List ℕ) → sameAddress a c ≡ false → look (decodeTable u) c ≡ look (decodeTable t) c
   -- every other record has the octets that it had, in the slot that it had
   pub octets : (j : ℕ) → j < slots (decodeTable t) → inUse (slot (decodeTable t) j) ≡ true → belongs a (slot (decodeTable t) j) ≡ false
-      → part u (32 + size * j) size ≡ part t (32 + size * j) size
+      → part u (recordAt (widthOf t) j) (recordSize (widthOf t)) ≡ part t (recordAt (widthOf t) j) (recordSize (widthOf t))
   -- the header has the octets that it had, but for the two counts
   pub front : part u 0 2 ≡ part t 0 2
   pub back : part u 6 26 ≡ part t 6 26
@@ -71,7 +72,7 @@ module _ (t a : List ℕ) (j : ℕ) (u : inUse (slot (decodeTable t) j) ≡ true
 module _ (t a : List ℕ) (b : Bytes t) (f : Found) (s : Step) (G : Good t a f s) where
   -- what is not the record's slot nor a count stays
   finish-outside : (at m : ℕ)
-      → ((k : ℕ) → k < slots (decodeTable t) → Sits (decodeTable t) k f → ((at + m ≤ 2) ⊎ ((6 ≤ at) × (at + m ≤ 32 + size * k))) ⊎ (32 + size * k + size ≤ at))
+      → ((k : ℕ) → k < slots (decodeTable t) → Sits (decodeTable t) k f → ((at + m ≤ 2) ⊎ ((6 ≤ at) × (at + m ≤ recordAt (widthOf t) k))) ⊎ (recordAt (widthOf t) k + recordSize (widthOf t) ≤ at))
       → part (finishes t f s a .table) at m ≡ part t at m
   unfolding finishes finishAt ends placed
   finish-outside at m w = go (s .refused) (seating (decodeTable t) f) refl
@@ -82,25 +83,27 @@ module _ (t a : List ℕ) (b : Bytes t) (f : Found) (s : Step) (G : Good t a f s
           let i = sits (decodeTable t) f k v in
           let S = entered-seated t a f (G .came) in
           let l = sits-below t f k S i in
-          placed-outside t (slots (decodeTable t)) k (s .peer) at m b (sound-whole t (S .whole)) l (shape-peer (G .fits))
-          (ap (λ (n : Counts). n .spare) (sound-form t (S .whole) .counts)) (w k l i)
+          placed-outside t (slots (decodeTable t)) k (s .peer) b (sound-whole t (S .whole)) l (shape-peer (G .fits))
+          (ap (λ (n : Counts). n .spare) (sound-form t (S .whole) .counts)) at m (w k l i)
       go false found.Nothing v = ap (λ (u : List ℕ). part u at m) (unchanged-ends (said s a) t b (entered-seated t a f (G .came) .whole))
 
   finish-octets : (j : ℕ) → j < slots (decodeTable t) → inUse (slot (decodeTable t) j) ≡ true → belongs a (slot (decodeTable t) j) ≡ false
-      → part (finishes t f s a .table) (32 + size * j) size ≡ part t (32 + size * j) size
-  finish-octets j l u n = finish-outside (32 + size * j) size (λ k h i. apart k j (other-slot t a j u n f k (G .came) i))
+      → part (finishes t f s a .table) (recordAt (widthOf t) j) (recordSize (widthOf t)) ≡ part t (recordAt (widthOf t) j) (recordSize (widthOf t))
+  finish-octets j l u n = finish-outside (recordAt (widthOf t) j) (recordSize (widthOf t)) (λ k h i. apart k j (other-slot t a j u n f k (G .came) i))
     where
-      apart : (k j : ℕ) → (j ≡ k → ⊥) → (((32 + size * j) + size ≤ 2) ⊎ ((6 ≤ 32 + size * j) × ((32 + size * j) + size ≤ 32 + size * k))) ⊎ (32 + size * k + size ≤ 32 + size * j)
+      apart : (k j : ℕ) → (j ≡ k → ⊥)
+          → ((recordAt (widthOf t) j + recordSize (widthOf t) ≤ 2) ⊎ ((6 ≤ recordAt (widthOf t) j) × (recordAt (widthOf t) j + recordSize (widthOf t) ≤ recordAt (widthOf t) k)))
+          ⊎ (recordAt (widthOf t) k + recordSize (widthOf t) ≤ recordAt (widthOf t) j)
       apart k j d = elim (cases (ltb j k)) [
-        | inl h ↦ let w : j < k = ltb-true j k h in inl (inr (omega arith, omega arith))
-        | inr h ↦ let w : k ≤ j = ltb-false j k h in inr (omega arith)
+        | inl h ↦ let w : j < k = ltb-true j k h in inl (inr (omega (arith, after-header (widthOf t) j), record-below (widthOf t) j k w))
+        | inr h ↦ let w : k ≤ j = ltb-false j k h in let v : k < j = omega (arith, w, d) in inr (record-below (widthOf t) k j v)
       ]
 
   finish-front : part (finishes t f s a .table) 0 2 ≡ part t 0 2
   finish-front = finish-outside 0 2 (λ k h i. inl (inl (omega arith)))
 
   finish-back : part (finishes t f s a .table) 6 26 ≡ part t 6 26
-  finish-back = finish-outside 6 26 (λ k h i. inl (inr (omega arith, omega arith)))
+  finish-back = finish-outside 6 26 (λ k h i. inl (inr (omega arith, omega (arith, after-header (widthOf t) k))))
 
   finish-keeps : Finished t a s (finishes t f s a) → Keeping t a (finishes t f s a .table)
   finish-keeps F = record {

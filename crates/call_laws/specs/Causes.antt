@@ -8,7 +8,7 @@ use Rattle.octets.specs.Scan.{if_then_else_, isNothing}
 use Rattle.groups.specs.Groups.{freshOk}
 use Rattle.frame.specs.Writing.{Drawn, Octets, Outside}
 use Rattle.record.specs.declared.Settings.{Settings}
-use Rattle.record.specs.Layout.{groupsOf}
+use Rattle.record.specs.Layout.{widthIn, groupsOf}
 use Rattle.soundness.specs.Soundness.{usable}
 use Rattle.table.specs.Table.{Table, decodeTable, finds, look, sound}
 use Rattle.table.specs.Initial.{initialOk}
@@ -19,7 +19,7 @@ use Rattle.message.specs.View.{view, message}
 use Rattle.answers.specs.declared.Refusal.{Refusal}
 use Rattle.answers.specs.declared.Refusal.the-variants as why
 use Rattle.answers.specs.Answers.{number}
-use Rattle.calls.specs.Calls.{termsOf, clockOf, brings, full}
+use Rattle.calls.specs.Calls.{termsOf, clockOf, freshIn, brings, full}
 
 -- a cause, and whether it holds
 pub record Cause : Type 0 where
@@ -58,7 +58,7 @@ unfoldable pub startCauses : List ℕ → List ℕ → List ℕ → List Cause
 startCauses t a fresh =
     cause why.Unsound (not (sound t))
     ∷ cause why.Address (not (usable (decodeTable t .header .own) a))
-    ∷ cause why.Fresh (not (freshOk (groupsOf (decodeTable t .header)) fresh))
+    ∷ cause why.Fresh (not (freshOk (widthIn (decodeTable t .header)) (groupsOf (decodeTable t .header)) fresh))
     ∷ cause why.Running (hasRun (look (decodeTable t) a))
     ∷ cause why.Full (absent (decodeTable t) a && full (decodeTable t))
     ∷ []
@@ -73,14 +73,14 @@ killCauses t a =
 -- the act that the ladders name for a frame: "New record needed, no free slot" is that it is NoSlot
 unfoldable pub frameNames : List ℕ → List ℕ → ℕ → List ℕ → List ℕ → List ℕ → ℕ → Act
 frameNames t a time frame fresh expected verdict =
-    frameAct (termsOf (decodeTable t) (finds (decodeTable t) a)) (brings a (clockOf (decodeTable t .header) time) fresh expected (verdict is 1))
+    frameAct (termsOf (decodeTable t) (finds (decodeTable t) a)) (brings a (clockOf (decodeTable t .header) time) (freshIn (decodeTable t .header) fresh) expected (verdict is 1))
     (look (decodeTable t) a) (message (groupsOf (decodeTable t .header)) frame)
 
 unfoldable pub frameCauses : List ℕ → List ℕ → ℕ → List ℕ → List ℕ → List ℕ → ℕ → List Cause
 frameCauses t a time frame fresh expected verdict =
     cause why.Unsound (not (sound t))
     ∷ cause why.Address (not (usable (decodeTable t .header .own) a))
-    ∷ cause why.Fresh (not (freshOk (groupsOf (decodeTable t .header)) fresh))
+    ∷ cause why.Fresh (not (freshOk (widthIn (decodeTable t .header)) (groupsOf (decodeTable t .header)) fresh))
     ∷ cause why.Token (not (eqb (length expected) 32))
     ∷ cause why.Verdict (ltb 1 verdict)
     ∷ cause why.Body (view (groupsOf (decodeTable t .header)) frame .sequence is 0)

@@ -10,13 +10,13 @@ use Rattle.rules.specs.Asked.{Drops}
 use Rattle.message.specs.View.{message}
 use Rattle.answers.specs.declared.Outcome.the-variants as outcome
 use Rattle.answers.specs.Answers.{Left, quiet}
-use Rattle.calls.specs.Calls.{termsOf, clockOf, brings}
+use Rattle.calls.specs.Calls.{termsOf, clockOf, freshIn, brings}
 use Rattle.call_laws.specs.Isolation.{PeerCall, receive}
 
 -- one of the places of Drops holds for what the call is handed
 abbrev pub FrameDrops : List ℕ → List ℕ → ℕ → List ℕ → List ℕ → List ℕ → ℕ → Type 0
 FrameDrops t a time frame fresh expected verdict =
-    Drops (termsOf (decodeTable t) (finds (decodeTable t) a)) (brings a (clockOf (decodeTable t .header) time) fresh expected (verdict is 1))
+    Drops (termsOf (decodeTable t) (finds (decodeTable t) a)) (brings a (clockOf (decodeTable t .header) time) (freshIn (decodeTable t .header) fresh) expected (verdict is 1))
     (look (decodeTable t) a) (message (groupsOf (decodeTable t .header)) frame)
 
 -- the table left is the table lent, octet for octet; unless it is refused, the call answers event 0, no frames, group 0 and the address given

@@ -8,10 +8,10 @@ use lib.ListN.{length, replicate}
 use Rattle.octets.specs.Scan.{if_then_else_, isNothing, firstBelow}
 use Rattle.octets.specs.declared.Found.{Found}
 use Rattle.octets.specs.declared.Found.the-variants as found
-use Rattle.groups.specs.Groups.{freshOk}
+use Rattle.groups.specs.Groups.{freshOf, freshOk}
 use Rattle.record.specs.declared.Header.{Header}
 use Rattle.record.specs.declared.Settings.{Settings}
-use Rattle.record.specs.Layout.{groupsOf, noPeer, periodOf, limitOf}
+use Rattle.record.specs.Layout.{widthIn, groupsOf, noPeer, periodOf, limitOf}
 use Rattle.record.specs.SettingsOctets.{settingsOf, reservedZero}
 use Rattle.table.specs.Table.{Table, decodeTable, slots, slot, freeSlot, lookBy, sound, entry}
 use Rattle.table.specs.Initial.{slotsFor, initialOk, initialTable}
@@ -46,8 +46,12 @@ termsOf T f =
 abbrev pub clockOf : Header → ℕ → Clock
 clockOf h time = record { time = time; period = periodOf (h .settings .period); limit = limitOf (h .settings .limit) }
 
-abbrev pub brings : List ℕ → Clock → List ℕ → List ℕ → Bool → Call
+abbrev pub brings : List ℕ → Clock → List (List ℕ) → List ℕ → Bool → Call
 brings address clock fresh expected verified = record { address = address; clock = clock; fresh = fresh; expected = expected; verified = verified }
+
+-- the stock as commits, each stored with the table's width: rules see no width
+abbrev pub freshIn : Header → List ℕ → List (List ℕ)
+freshIn h fresh = freshOf (widthIn h) fresh
 
 -- a start and the clock bring no token
 abbrev pub noToken : List ℕ
@@ -68,7 +72,7 @@ initializesFrom t own s = if reservedZero s then initializes t own (settingsOf s
 
 unfoldable pub admitStart : Table → Found → List ℕ → Turn
 admitStart T f fresh =
-    if not (freshOk (groupsOf (T .header)) fresh) then turn.Refused why.Fresh
+    if not (freshOk (widthIn (T .header)) (groupsOf (T .header)) fresh) then turn.Refused why.Fresh
     else if hasRun (lookBy T f) then turn.Refused why.Running
     else turn.Go f
 
@@ -79,7 +83,7 @@ startTurn Absent t fresh = admitStart (decodeTable t) found.Nothing fresh
 startTurn (At k) t fresh = admitStart (decodeTable t) (found.At k) fresh
 
 unfoldable pub startStep : Table → Found → List ℕ → ℕ → List ℕ → Step
-startStep T f address time fresh = onStart (termsOf T f) (brings address (clockOf (T .header) time) fresh noToken false) (lookBy T f)
+startStep T f address time fresh = onStart (termsOf T f) (brings address (clockOf (T .header) time) (freshIn (T .header) fresh) noToken false) (lookBy T f)
 
 unfoldable pub initiates : List ℕ → List ℕ → ℕ → List ℕ → Left
 initiates t address time fresh = turned (startTurn (entry t address) t fresh) (λ f. startStep (decodeTable t) f address time fresh) t address
@@ -103,7 +107,7 @@ kills t address = turned (killTurn (entry t address)) (λ f. killStep) t address
 
 unfoldable pub admitFrame : Table → Found → List ℕ → List ℕ → List ℕ → ℕ → Turn
 admitFrame T f frame fresh expected verdict =
-    if not (freshOk (groupsOf (T .header)) fresh) then turn.Refused why.Fresh
+    if not (freshOk (widthIn (T .header)) (groupsOf (T .header)) fresh) then turn.Refused why.Fresh
     else if not (eqb (length expected) 32) then turn.Refused why.Token
     else if ltb 1 verdict then turn.Refused why.Verdict
     else if view (groupsOf (T .header)) frame .sequence is 0 then turn.Refused why.Body
@@ -118,7 +122,7 @@ frameTurn (At k) t frame fresh expected verdict = admitFrame (decodeTable t) (fo
 -- "one verdict, 0 or 1"
 unfoldable pub frameStep : Table → Found → List ℕ → ℕ → List ℕ → List ℕ → List ℕ → ℕ → Step
 frameStep T f address time frame fresh expected verdict =
-    onFrame (termsOf T f) (brings address (clockOf (T .header) time) fresh expected (verdict is 1)) (lookBy T f) (message (groupsOf (T .header)) frame)
+    onFrame (termsOf T f) (brings address (clockOf (T .header) time) (freshIn (T .header) fresh) expected (verdict is 1)) (lookBy T f) (message (groupsOf (T .header)) frame)
 
 unfoldable pub receives : List ℕ → List ℕ → ℕ → List ℕ → List ℕ → List ℕ → ℕ → Left
 receives t address time frame fresh expected verdict =

@@ -54,24 +54,24 @@ pub fn t1_at(time: u32) -> u32
 }
 
 // t0 counts only with a run.
-pub fn t0_due(s: &[u8], time: u32) -> bool
-    requires { ⌜ length (now s) ≡ recordSize width ⌝ }
-    ensures { λ r. ⌜ r ≡ t0Due (decodePeer width (now (s .entry))) time ⌝ }
+pub fn t0_due(s: &[u8], w: usize, time: u32) -> bool
+    requires { ⌜ (length (now s) ≡ recordSize w) × (w ≤ width) ⌝ }
+    ensures { λ r. ⌜ r ≡ t0Due (decodePeer w (now (s .entry))) time ⌝ }
 {
-    let state = record::state_of(s);
-    let at = record::t0_of(s);
+    let state = record::state_of(s, w);
+    let at = record::t0_of(s, w);
     let due = is_due(time, at);
     (state != 0) & due
 }
 
 // Whether a record has a deadline that is due.
-pub fn is_expired(s: &[u8], time: u32) -> bool
-    requires { ⌜ length (now s) ≡ recordSize width ⌝ }
-    ensures { λ r. ⌜ r ≡ expired (decodePeer width (now (s .entry))) time ⌝ }
+pub fn is_expired(s: &[u8], w: usize, time: u32) -> bool
+    requires { ⌜ (length (now s) ≡ recordSize w) × (w ≤ width) ⌝ }
+    ensures { λ r. ⌜ r ≡ expired (decodePeer w (now (s .entry))) time ⌝ }
 {
-    let early = t0_due(s, time);
-    let finished = record::finished_of(s);
-    let at = record::t1_of(s);
+    let early = t0_due(s, w, time);
+    let finished = record::finished_of(s, w);
+    let at = record::t1_of(s, w);
     let late = is_due(time, at);
     early | ((finished != 0) & late)
 }

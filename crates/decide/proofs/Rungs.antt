@@ -2,19 +2,16 @@
 use mathlib.Core.Path.{_≡_, refl, sym, ap, _∙_, subst}
 use mathlib.Core.Bool.{Bool, true, false, not, _&&_}
 use mathlib.Core.List.{List}
-use Prim.Native.Nat.{ℕ, _+_, _≤_, _<_}
+use Prim.Native.Nat.{ℕ, _≤_, _<_}
 use native.Mathlib.Omega.{arith}
 use lib.Dec.{eqb, ltb}
 use lib.ListN.{length, take}
-use lib.Seq.{length-take-le}
+use lib.Seq.{length-take-le, take-all}
 use borrow.Author.Tests.{eq-eqb, ne-eqb, lt-ltb, le-ltb, not-true, not-false}
 use Rattle.octets.specs.Octets.{part, same}
-use Rattle.octets.proofs.Laws.{part-part}
-use Rattle.groups.specs.Groups.{width, scalarLength}
-use Rattle.groups.proofs.Laws.{commit-fits, scalar-fits}
-use Rattle.record.specs.Layout.{decodePeer}
+use Rattle.groups.specs.Groups.{scalarLength, stored, Storable}
+use Rattle.groups.proofs.Laws.{part-stored, same-stored}
 use Rattle.record.specs.declared.Link.{Link}
-use Rattle.record.proofs.Windows.{link-peer-law}
 use Rattle.rules.specs.Book.{holds, linkedWith}
 use Rattle.rules.specs.Message.{Message}
 
@@ -41,12 +38,20 @@ module _ (l : Link) (m : Message) (finished group : ℕ) (x : Bool) where
   unfolding linkedWith
   this-link heard e z g d c q = rw (ne-eqb (l .finished) 0 (λ q. z (e ∙ q)), eq-eqb (l .group) (m .group) (sym g ∙ d), ← c) q
 
+-- the scalar, of a peer commit where it lies
 pub same-scalar-law :
-    (s heard : List ℕ) (group n : ℕ) (x : Bool) → n ≡ scalarLength group → x ≡ same (part heard 0 n) (part s 720 n) →
-    x ≡ same (part heard 0 (scalarLength group)) (part (decodePeer width s .link .peer) 0 (scalarLength group))
-same-scalar-law s heard group n x e q =
-    let h : 0 + scalarLength group ≤ width = omega (arith, scalar-fits group, commit-fits group) in
-    rw (link-peer-law s, part-part s 720 width 0 (scalarLength group) h, ← e) q
+    (heard peer commit : List ℕ) (W group n : ℕ) (x : Bool) → n ≡ scalarLength group → n ≤ W → length peer ≡ W → stored peer ≡ commit →
+    x ≡ same (part heard 0 n) (part peer 0 n) → x ≡ same (part heard 0 (scalarLength group)) (part commit 0 (scalarLength group))
+same-scalar-law heard peer commit W group n x e h l c q = rw (← e, ← c, part-stored peer n (omega arith)) q
+
+-- a commit against one where it lies: what its width cuts off is zero
+pub same-commit-law :
+    (heard commit lies own : List ℕ) (W : ℕ) (x : Bool) → W ≤ length heard → heard ≡ commit → Storable W commit → length lies ≡ W → stored lies ≡ own →
+    x ≡ same (take W heard) lies → x ≡ same commit own
+same-commit-law heard commit lies own W x h e s l o q =
+    let n : length (take W heard) ≡ length lies = length-take-le W heard h ∙ sym l in
+    let f : stored (take W heard) ≡ commit = ap (λ (c : List ℕ). stored (take W c)) e ∙ s .same in
+    q ∙ sym (same-stored (take W heard) lies n) ∙ ap (λ (c : List ℕ). same c (stored lies)) f ∙ ap (same commit) o
 
 -- "wrong token": not asked unless Open is at or above the threshold
 pub unasked : (crowded wrong : Bool) → not crowded ≡ true → false ≡ (crowded && wrong)
@@ -60,8 +65,10 @@ pub wrong-law :
     not like ≡ (crowded && not (same (take n token) expected))
 wrong-law crowded like n token heard expected e h q = ap not (q ∙ ap (λ (x : List ℕ). same (take n x) expected) h) ∙ asked crowded (not (same (take n token) expected)) e
 
-pub prefix-count : (n : ℕ) (token : List ℕ) → n ≤ 256 → length token ≡ 256 → n ≡ length (take n token)
-prefix-count n token h e = sym (length-take-le n token (omega arith))
+-- two slices as long as the parts compared
+pub same-whole : (a b : List ℕ) (n : ℕ) (r : Bool) → length a ≡ n → length b ≡ n → r ≡ same (part a 0 n) (part b 0 n) → r ≡ same a b
+unfolding part
+same-whole a b n r p q e = e ∙ (λ i. same (take-all n a (omega (arith, p)) i) (take-all n b (omega (arith, q)) i))
 
 -- a number that a call read, against a constant
 pub read-is : (x r k : ℕ) → r ≡ x → r ≡ k → eqb x k ≡ true

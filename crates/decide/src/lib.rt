@@ -6,7 +6,7 @@ ghost use lib.Dec.{eqb};
 ghost use lib.ListN.{length, take};
 ghost use Rattle.octets.specs.Octets.{part, same};
 ghost use Rattle.octets.specs.Scan.{if_then_else_};
-ghost use Rattle.groups.specs.Groups.{width, scalarLength, freshFor};
+ghost use Rattle.groups.specs.Groups.{width, scalarLength, Storable, freshOf, freshFor};
 ghost use Rattle.record.specs.Layout.{decodePeer, recordSize};
 ghost use Rattle.rules.specs.declared.Act.the-variants.{Drop};
 ghost use Rattle.rules.specs.Book.{linkedWith, commitIdle, commitCommitted, commitConfirmed, confirmCommitted, confirmConfirmed, confirmLinked, commitAct, confirmAct, frameAct};
@@ -14,38 +14,36 @@ ghost use Rattle.message.specs.View.{messageOf};
 ghost use Rattle.rules.specs.Given.{terms, call, Stocked, Ready};
 use groups::COMMIT;
 use message::View;
-use record::LINK;
-use record::LINK_PEER;
-use record::RUN;
-use record::RUN_OWN;
+use record::NARROW_WIDTH;
 use rules::Act;
 use rules::Given;
 
 // The scalar of a group is that of the link's peer.
-fn same_scalar(s: &[u8], heard: [u8; COMMIT], group: u16) -> bool
-    requires { ⌜ length (now s) ≡ recordSize width ⌝ }
-    ensures { λ x. ⌜ x ≡ same (part heard 0 (scalarLength group)) (part (decodePeer width (now (s .entry)) .link .peer) 0 (scalarLength group)) ⌝ }
+fn same_scalar(s: &[u8], w: usize, heard: [u8; COMMIT], group: u16) -> bool
+    requires { ⌜ (length (now s) ≡ recordSize w) × ((w ≤ width) × (48 ≤ w)) ⌝ }
+    ensures { λ x. ⌜ x ≡ same (part heard 0 (scalarLength group)) (part (decodePeer w (now (s .entry)) .link .peer) 0 (scalarLength group)) ⌝ }
 {
     let n = groups::scalar_length(group);
-    octets::same_part(&heard[..], 0, s, LINK + LINK_PEER, n)
+    let peer = record::link_peer_of(s, w);
+    octets::same_part(&heard[..], 0, peer, 0, n)
 }
 
 // "finished link with that group and peer scalar"
-fn is_linked(s: &[u8], v: View, body: &[u8]) -> bool
-    requires { ⌜ (length (now s) ≡ recordSize width) × (v .toklen ≤ 256) ⌝ }
-    ensures { λ x. ⌜ x ≡ linkedWith (decodePeer width (now (s .entry)) .link) (messageOf (now (body .entry)) v) ⌝ }
+fn is_linked(s: &[u8], w: usize, v: View, body: &[u8]) -> bool
+    requires { ⌜ (length (now s) ≡ recordSize w) × ((w ≤ width) × ((48 ≤ w) × (v .toklen ≤ 256))) ⌝ }
+    ensures { λ x. ⌜ x ≡ linkedWith (decodePeer w (now (s .entry)) .link) (messageOf (now (body .entry)) v) ⌝ }
 {
-    let finished = record::finished_of(s);
+    let finished = record::finished_of(s, w);
     if finished == 0 {
         return false;
     }
-    let our_group = record::link_group_of(s);
+    let our_group = record::link_group_of(s, w);
     let group = v.group;
     if our_group != group {
         return false;
     }
     let heard = message::commit(body, v);
-    same_scalar(s, heard, group)
+    same_scalar(s, w, heard, group)
 }
 
 // "wrong token", Open being at or above the threshold
@@ -62,31 +60,51 @@ fn is_wrong(crowded: bool, v: View, body: &[u8], expected: [u8; 32]) -> bool
     !same
 }
 
+// Two commits as they are stored. Where they have the narrow form's width, the compiler knows how many octets it looks at.
+fn same_stored(a: &[u8], b: &[u8]) -> bool
+    ensures { λ x. ⌜ x ≡ same (now (a .entry)) (now (b .entry)) ⌝ }
+{
+    if a.len() != NARROW_WIDTH {
+        return octets::is_same(a, b);
+    }
+    if b.len() != NARROW_WIDTH {
+        return octets::is_same(a, b);
+    }
+    octets::same_part(a, 0, b, 0, NARROW_WIDTH)
+}
+
 // "equal to our stock's"
-fn equals_fresh(v: View, body: &[u8], groups: &[u16], fresh: &[u8]) -> bool
-    requires { ⌜ Stocked (now groups) (now fresh) × (v .toklen ≤ 256) ⌝ }
-    ensures { λ x. ⌜ x ≡ same (messageOf (now (body .entry)) v .commit) (freshFor (now (groups .entry)) (now (fresh .entry)) (v .group)) ⌝ }
+fn equals_fresh(v: View, body: &[u8], groups: &[u16], fresh: &[u8], w: usize) -> bool
+    requires { ⌜ Stocked w (now groups) (now fresh) × ((w ≤ width) × ((v .toklen ≤ 256) × Storable w (messageOf (now body) v .commit))) ⌝ }
+    ensures { λ x. ⌜ x ≡ same (messageOf (now (body .entry)) v .commit) (freshFor (now (groups .entry)) (freshOf w (now (fresh .entry))) (v .group)) ⌝ }
 {
     let heard = message::commit(body, v);
-    let own = groups::fresh_for(groups, fresh, v.group);
-    octets::is_same(&heard[..], &own[..])
+    let own = groups::fresh_for(groups, fresh, w, v.group);
+    same_stored(&heard[..w], own)
 }
 
 // "equal to our commit"
-fn equals_own(s: &[u8], v: View, body: &[u8]) -> bool
-    requires { ⌜ (length (now s) ≡ recordSize width) × (v .toklen ≤ 256) ⌝ }
-    ensures { λ x. ⌜ x ≡ same (messageOf (now (body .entry)) v .commit) (decodePeer width (now (s .entry)) .run .own) ⌝ }
+fn equals_own(s: &[u8], w: usize, v: View, body: &[u8]) -> bool
+    requires { ⌜ (length (now s) ≡ recordSize w) × ((w ≤ width) × ((v .toklen ≤ 256) × Storable w (messageOf (now body) v .commit))) ⌝ }
+    ensures { λ x. ⌜ x ≡ same (messageOf (now (body .entry)) v .commit) (decodePeer w (now (s .entry)) .run .own) ⌝ }
 {
     let heard = message::commit(body, v);
-    let a = RUN + RUN_OWN;
-    let e = a + COMMIT;
-    octets::is_same(&heard[..], &s[a..e])
+    let own = record::own_of(s, w);
+    same_stored(&heard[..w], own)
 }
 
 // "Commit, no run, in this order"
-pub fn commit_idle(s: &[u8], g: Given, v: View, body: &[u8], groups: &[u16], fresh: &[u8]) -> Act
-    requires { ⌜ Ready (g .clock) (now s) (now groups) (now fresh) (messageOf (now body) v) ⌝ }
-    ensures { λ r. ⌜ r ≡ commitIdle (terms g (now (groups .entry))) (call g (now (fresh .entry))) (decodePeer width (now (s .entry))) (messageOf (now (body .entry)) v) ⌝ }
+pub fn commit_idle(
+    s: &[u8],
+    w: usize,
+    g: Given,
+    v: View,
+    body: &[u8],
+    groups: &[u16],
+    fresh: &[u8],
+) -> Act
+    requires { ⌜ Ready (g .clock) w (now s) (now groups) (now fresh) (messageOf (now body) v) ⌝ }
+    ensures { λ r. ⌜ r ≡ commitIdle (terms g (now (groups .entry))) (call g (freshOf w (now (fresh .entry)))) (decodePeer w (now (s .entry))) (messageOf (now (body .entry)) v) ⌝ }
 {
     let status = v.status;
     let listed = v.listed;
@@ -100,7 +118,7 @@ pub fn commit_idle(s: &[u8], g: Given, v: View, body: &[u8], groups: &[u16], fre
     if !listed {
         return Act::RefuseGroup;
     }
-    if is_linked(s, v, body) {
+    if is_linked(s, w, v, body) {
         return Act::Drop;
     }
     let lacks = crowded & (toklen == 0);
@@ -111,7 +129,7 @@ pub fn commit_idle(s: &[u8], g: Given, v: View, body: &[u8], groups: &[u16], fre
     if is_wrong(crowded, v, body, expected) {
         return Act::Drop;
     }
-    if equals_fresh(v, body, groups, fresh) {
+    if equals_fresh(v, body, groups, fresh, w) {
         return Act::Drop;
     }
     if !verified {
@@ -136,14 +154,15 @@ fn for_ours(group: u16, ours: u16, act: Act) -> Act
 // "Commit in Committed"
 pub fn commit_committed(
     s: &[u8],
+    w: usize,
     g: Given,
     v: View,
     body: &[u8],
     groups: &[u16],
     fresh: &[u8],
 ) -> Act
-    requires { ⌜ Ready (g .clock) (now s) (now groups) (now fresh) (messageOf (now body) v) ⌝ }
-    ensures { λ r. ⌜ r ≡ commitCommitted (terms g (now (groups .entry))) (call g (now (fresh .entry))) (decodePeer width (now (s .entry))) (messageOf (now (body .entry)) v) ⌝ }
+    requires { ⌜ Ready (g .clock) w (now s) (now groups) (now fresh) (messageOf (now body) v) ⌝ }
+    ensures { λ r. ⌜ r ≡ commitCommitted (terms g (now (groups .entry))) (call g (freshOf w (now (fresh .entry)))) (decodePeer w (now (s .entry))) (messageOf (now (body .entry)) v) ⌝ }
 {
     let status = v.status;
     let group = v.group;
@@ -151,7 +170,7 @@ pub fn commit_committed(
     let verified = g.verified;
     let own = g.own;
     let address = g.address;
-    let our_group = record::group_of(s);
+    let our_group = record::group_of(s, w);
     if status == 76 {
         return for_ours(group, our_group, Act::ReplyToken);
     }
@@ -171,12 +190,12 @@ pub fn commit_committed(
         if !verified {
             return Act::Drop;
         }
-        if equals_fresh(v, body, groups, fresh) {
+        if equals_fresh(v, body, groups, fresh, w) {
             return Act::Drop;
         }
         return Act::AnswerCommit;
     }
-    if equals_own(s, v, body) {
+    if equals_own(s, w, v, body) {
         return Act::Drop;
     }
     if !verified {
@@ -188,14 +207,15 @@ pub fn commit_committed(
 // "Confirmed. Commit"
 pub fn commit_confirmed(
     s: &[u8],
+    w: usize,
     g: Given,
     v: View,
     body: &[u8],
     groups: &[u16],
     fresh: &[u8],
 ) -> Act
-    requires { ⌜ Ready (g .clock) (now s) (now groups) (now fresh) (messageOf (now body) v) ⌝ }
-    ensures { λ r. ⌜ r ≡ commitConfirmed (call g (now (fresh .entry))) (decodePeer width (now (s .entry))) (messageOf (now (body .entry)) v) ⌝ }
+    requires { ⌜ Ready (g .clock) w (now s) (now groups) (now fresh) (messageOf (now body) v) ⌝ }
+    ensures { λ r. ⌜ r ≡ commitConfirmed (call g (freshOf w (now (fresh .entry)))) (decodePeer w (now (s .entry))) (messageOf (now (body .entry)) v) ⌝ }
 {
     let status = v.status;
     let group = v.group;
@@ -204,11 +224,11 @@ pub fn commit_confirmed(
     if status != 0 {
         return Act::Drop;
     }
-    let sync = record::sync_of(s);
+    let sync = record::sync_of(s, w);
     if sync > limit {
         return Act::GiveUp;
     }
-    let our_group = record::group_of(s);
+    let our_group = record::group_of(s, w);
     if group != our_group {
         return Act::Drop;
     }
@@ -218,13 +238,14 @@ pub fn commit_confirmed(
 // "Confirm in Committed"
 pub fn confirm_committed(
     s: &[u8],
+    w: usize,
     g: Given,
     v: View,
     body: &[u8],
     groups: &[u16],
     fresh: &[u8],
 ) -> Act
-    requires { ⌜ Ready (g .clock) (now s) (now groups) (now fresh) (messageOf (now body) v) ⌝ }
+    requires { ⌜ Ready (g .clock) w (now s) (now groups) (now fresh) (messageOf (now body) v) ⌝ }
     ensures { λ r. ⌜ r ≡ confirmCommitted (messageOf (now (body .entry)) v) ⌝ }
 {
     let status = v.status;
@@ -237,14 +258,15 @@ pub fn confirm_committed(
 // "Confirmed. Confirm"
 pub fn confirm_confirmed(
     s: &[u8],
+    w: usize,
     g: Given,
     v: View,
     body: &[u8],
     groups: &[u16],
     fresh: &[u8],
 ) -> Act
-    requires { ⌜ Ready (g .clock) (now s) (now groups) (now fresh) (messageOf (now body) v) ⌝ }
-    ensures { λ r. ⌜ r ≡ confirmConfirmed (call g (now (fresh .entry))) (messageOf (now (body .entry)) v) ⌝ }
+    requires { ⌜ Ready (g .clock) w (now s) (now groups) (now fresh) (messageOf (now body) v) ⌝ }
+    ensures { λ r. ⌜ r ≡ confirmConfirmed (call g (freshOf w (now (fresh .entry)))) (messageOf (now (body .entry)) v) ⌝ }
 {
     let status = v.status;
     let verified = g.verified;
@@ -258,9 +280,17 @@ pub fn confirm_confirmed(
 }
 
 // "Link, no run, Confirm"
-pub fn confirm_linked(s: &[u8], g: Given, v: View, body: &[u8], groups: &[u16], fresh: &[u8]) -> Act
-    requires { ⌜ Ready (g .clock) (now s) (now groups) (now fresh) (messageOf (now body) v) ⌝ }
-    ensures { λ r. ⌜ r ≡ confirmLinked (call g (now (fresh .entry))) (decodePeer width (now (s .entry))) (messageOf (now (body .entry)) v) ⌝ }
+pub fn confirm_linked(
+    s: &[u8],
+    w: usize,
+    g: Given,
+    v: View,
+    body: &[u8],
+    groups: &[u16],
+    fresh: &[u8],
+) -> Act
+    requires { ⌜ Ready (g .clock) w (now s) (now groups) (now fresh) (messageOf (now body) v) ⌝ }
+    ensures { λ r. ⌜ r ≡ confirmLinked (call g (freshOf w (now (fresh .entry)))) (decodePeer w (now (s .entry))) (messageOf (now (body .entry)) v) ⌝ }
 {
     let status = v.status;
     let counter = v.counter;
@@ -270,11 +300,11 @@ pub fn confirm_linked(s: &[u8], g: Given, v: View, body: &[u8], groups: &[u16], 
     if status != 0 {
         return Act::Drop;
     }
-    let sync = record::link_sync_of(s);
+    let sync = record::link_sync_of(s, w);
     if sync > limit {
         return Act::EndLink;
     }
-    let rc = record::rc_of(s);
+    let rc = record::rc_of(s, w);
     if counter <= rc {
         return Act::Drop;
     }
@@ -288,47 +318,71 @@ pub fn confirm_linked(s: &[u8], g: Given, v: View, body: &[u8], groups: &[u16], 
 }
 
 // A Commit: "a run takes all frames while it lasts"
-pub fn commit(s: &[u8], g: Given, v: View, body: &[u8], groups: &[u16], fresh: &[u8]) -> Act
-    requires { ⌜ Ready (g .clock) (now s) (now groups) (now fresh) (messageOf (now body) v) ⌝ }
-    ensures { λ r. ⌜ r ≡ commitAct (terms g (now (groups .entry))) (call g (now (fresh .entry))) (decodePeer width (now (s .entry))) (messageOf (now (body .entry)) v) ⌝ }
+pub fn commit(
+    s: &[u8],
+    w: usize,
+    g: Given,
+    v: View,
+    body: &[u8],
+    groups: &[u16],
+    fresh: &[u8],
+) -> Act
+    requires { ⌜ Ready (g .clock) w (now s) (now groups) (now fresh) (messageOf (now body) v) ⌝ }
+    ensures { λ r. ⌜ r ≡ commitAct (terms g (now (groups .entry))) (call g (freshOf w (now (fresh .entry)))) (decodePeer w (now (s .entry))) (messageOf (now (body .entry)) v) ⌝ }
 {
-    let state = record::state_of(s);
+    let state = record::state_of(s, w);
     if state == 1 {
-        return commit_committed(s, g, v, body, groups, fresh);
+        return commit_committed(s, w, g, v, body, groups, fresh);
     }
     if state == 2 {
-        return commit_confirmed(s, g, v, body, groups, fresh);
+        return commit_confirmed(s, w, g, v, body, groups, fresh);
     }
-    commit_idle(s, g, v, body, groups, fresh)
+    commit_idle(s, w, g, v, body, groups, fresh)
 }
 
 // A Confirm: "a run takes all frames while it lasts. Confirm with neither: drop."
-pub fn confirm(s: &[u8], g: Given, v: View, body: &[u8], groups: &[u16], fresh: &[u8]) -> Act
-    requires { ⌜ Ready (g .clock) (now s) (now groups) (now fresh) (messageOf (now body) v) ⌝ }
-    ensures { λ r. ⌜ r ≡ confirmAct (call g (now (fresh .entry))) (decodePeer width (now (s .entry))) (messageOf (now (body .entry)) v) ⌝ }
+pub fn confirm(
+    s: &[u8],
+    w: usize,
+    g: Given,
+    v: View,
+    body: &[u8],
+    groups: &[u16],
+    fresh: &[u8],
+) -> Act
+    requires { ⌜ Ready (g .clock) w (now s) (now groups) (now fresh) (messageOf (now body) v) ⌝ }
+    ensures { λ r. ⌜ r ≡ confirmAct (call g (freshOf w (now (fresh .entry)))) (decodePeer w (now (s .entry))) (messageOf (now (body .entry)) v) ⌝ }
 {
-    let state = record::state_of(s);
+    let state = record::state_of(s, w);
     if state == 1 {
-        return confirm_committed(s, g, v, body, groups, fresh);
+        return confirm_committed(s, w, g, v, body, groups, fresh);
     }
     if state == 2 {
-        return confirm_confirmed(s, g, v, body, groups, fresh);
+        return confirm_confirmed(s, w, g, v, body, groups, fresh);
     }
-    let finished = record::finished_of(s);
+    let finished = record::finished_of(s, w);
     if finished != 0 {
-        return confirm_linked(s, g, v, body, groups, fresh);
+        return confirm_linked(s, w, g, v, body, groups, fresh);
     }
     Act::Drop
 }
 
 // What a frame calls for
-pub fn frame(s: &[u8], g: Given, v: View, body: &[u8], groups: &[u16], fresh: &[u8]) -> Act
-    requires { ⌜ Ready (g .clock) (now s) (now groups) (now fresh) (messageOf (now body) v) ⌝ }
-    ensures { λ r. ⌜ r ≡ frameAct (terms g (now (groups .entry))) (call g (now (fresh .entry))) (decodePeer width (now (s .entry))) (messageOf (now (body .entry)) v) ⌝ }
+pub fn frame(
+    s: &[u8],
+    w: usize,
+    g: Given,
+    v: View,
+    body: &[u8],
+    groups: &[u16],
+    fresh: &[u8],
+) -> Act
+    requires { ⌜ Ready (g .clock) w (now s) (now groups) (now fresh) (messageOf (now body) v) ⌝ }
+    ensures { λ r. ⌜ r ≡ frameAct (terms g (now (groups .entry))) (call g (freshOf w (now (fresh .entry)))) (decodePeer w (now (s .entry))) (messageOf (now (body .entry)) v) ⌝ }
 {
     let sequence = v.sequence;
     if sequence == 1 {
-        return commit(s, g, v, body, groups, fresh);
+        return commit(s, w, g, v, body, groups, fresh);
     }
-    confirm(s, g, v, body, groups, fresh)
+    confirm(s, w, g, v, body, groups, fresh)
 }

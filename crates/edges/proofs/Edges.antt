@@ -16,11 +16,11 @@ use Rattle.edges.specs.Edges.{edges, allHold}
 
 pub edges-hold : allHold edges ≡ true
 unfolding octets.part octets.num octets.oct octets.allZero octets.same scan.allBelow scan.countBelow scan.firstBelow scan.lastBelow
-    groups.scalarLength groups.elementLength groups.commitLength groups.stored groups.listed groups.placeFrom groups.place groups.indexOf
-    groups.freshAt groups.freshFor groups.tailsOk groups.freshOk frame.readListed frame.readOffer frame.readCommit frame.wholeAfter frame.wholeElements frame.elementsOf
+    groups.scalarLength groups.elementLength groups.commitLength groups.stored groups.listed groups.placeFrom groups.place groups.indexOf groups.commitsOf
+    groups.freshOf groups.freshAt groups.freshFor groups.tailsOk groups.freshOk frame.readListed frame.readOffer frame.readCommit frame.wholeAfter frame.wholeElements frame.elementsOf
     frame.readConfirm frame.readBody frame.readTokenRequest frame.scalarOf frame.elementOf frame.commitOf frame.head layout.noRun layout.noLink layout.noPeer
-    layout.periodOf layout.limitOf tables.slot tables.openCount tables.freeSlot tables.lookBy tables.recounted tables.withPeer tables.placed parts.withSync parts.withSc parts.withToken
-    parts.heardAgain parts.withRun parts.withLink book.deadline book.due book.holds book.linkedWith book.t0Due book.t1Due book.expired
+    layout.formOf layout.periodOf layout.limitOf tables.slot tables.openCount tables.freeSlot tables.lookBy tables.recounted tables.withPeer tables.placed
+    parts.withSync parts.withSc parts.withToken parts.heardAgain parts.withRun parts.withLink book.deadline book.due book.holds book.linkedWith book.t0Due book.t1Due book.expired
     book.startAct book.commitIdle book.commitCommitted book.confirmLinked book.clockAct book.commitAct book.confirmAct book.frameAct book.delay book.setT0
     book.sending book.answering book.settled book.abandoning book.retransmitting book.dropping book.forming book.startedRun book.starting
     book.answeringCommit book.repeatingCommit book.replyingToken book.confirmingAgain book.hearingAgain book.hearingLast book.perform book.onFrame book.onClock book.onStart

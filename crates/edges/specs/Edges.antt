@@ -11,7 +11,8 @@ use Rattle.octets.specs.declared.Found.the-variants as found
 use Rattle.groups.specs.Groups.{width}
 use Rattle.frame.specs.Frame.{head}
 use Rattle.record.specs.declared.Peer.{Peer}
-use Rattle.record.specs.Layout.{groupsOf, noRun, noLink, noPeer}
+use Rattle.record.specs.declared.Form.{Form}
+use Rattle.record.specs.Layout.{formOf, groupsOf, noRun, noLink, noPeer}
 use Rattle.table.specs.Table.{Table, placed, slot, lookBy}
 use Rattle.rules.specs.declared.Act.{Act}
 use Rattle.rules.specs.declared.Act.the-variants.{Drop, RefuseGroup, AskToken, NoSlot, AnswerCommit, ConfirmCommit, ReplyToken, SwitchGroup, RepeatCommit, RepeatRefusal, ResendBoth, ConfirmAgain, GiveUp, Accept, HearAgain, HearLast, EndLink, Begin}
@@ -24,7 +25,7 @@ use Rattle.message.specs.View.{view, message}
 use Rattle.answers.specs.declared.Turn.{Turn}
 use Rattle.answers.specs.declared.Turn.the-variants as turn
 use Rattle.answers.specs.Answers.{number}
-use Rattle.calls.specs.Calls.{termsOf, clockOf, brings, admitFrame, startStep, frameStep, dueSlot, clockStep}
+use Rattle.calls.specs.Calls.{termsOf, clockOf, brings, freshIn, admitFrame, startStep, frameStep, dueSlot, clockStep}
 
 -- ---- tables: eight slots, groups 19 and 20, threshold 5
 
@@ -151,6 +152,10 @@ abbrev pub slotNumbers : Found → List ℕ
 slotNumbers found.Nothing = []
 slotNumbers (found.At k) = k ∷ []
 
+-- record size, width of a stored commit, the most slots, the most groups
+abbrev pub formNumbers : Form → List ℕ
+formNumbers f = f .size ∷ f .width ∷ f .slots ∷ f .groups ∷ []
+
 -- the acts of the book, told apart
 unfoldable pub named : Act → ℕ
 named Drop = 0
@@ -177,6 +182,10 @@ named Begin = 17
 pub data Question : Type 0 where
   -- a frame call's test of these octets: 7, or the view of what was read
   Received : List ℕ → Question
+  -- a frame call's test of a stock of so many octets: 4, or the view of the Commit read
+  Stocked : ℕ → Question
+  -- the form that a record size tells
+  Formed : ℕ → Question
   -- the t0 deadline of a start at a reading
   Deadline : ℕ → Question
   -- started at a reading, the slot that a clock call at another reading takes
@@ -192,6 +201,10 @@ pub data Question : Type 0 where
   -- with so many Open, a Commit without a token from a new peer: the act, stock group used, frames
   Offered : ℕ → Question
 
+-- a frame call's tests on the empty table
+abbrev pub received : List ℕ → List ℕ → List ℕ
+received s fresh = admitted (admitFrame empty found.Nothing s fresh expected 1) (view (groupsOf (empty .header)) s)
+
 -- a start on the empty table
 abbrev pub started : ℕ → Peer
 started time = startStep empty found.Nothing (address 1) time stock .peer
@@ -199,7 +212,8 @@ started time = startStep empty found.Nothing (address 1) time stock .peer
 -- the act that the ladder names for a frame, heard at a reading from an address whose record is at f
 abbrev pub heard : Table → Found → List ℕ → ℕ → List ℕ → ℕ → Act
 heard T f a time frame verdict =
-    frameAct (termsOf T f) (brings a (clockOf (T .header) time) stock expected (verdict is 1)) (lookBy T f) (message (groupsOf (T .header)) frame)
+    frameAct (termsOf T f) (brings a (clockOf (T .header) time) (freshIn (T .header) stock) expected (verdict is 1)) (lookBy T f)
+    (message (groupsOf (T .header)) frame)
 
 abbrev pub sayExpired : Act → Step → List ℕ
 sayExpired a s = named a ∷ eventNumber (s .event) ∷ s .peer .run .sync ∷ framesNumbers (s .frames)
@@ -242,7 +256,9 @@ abbrev pub answerOffered : Table → List ℕ → List ℕ
 answerOffered T frame = sayOffered (heard T found.Nothing (address 100) 0 frame 1) (frameStep T found.Nothing (address 100) 0 frame stock expected 1)
 
 unfoldable pub answer : Question → List ℕ
-answer (Received s) = admitted (admitFrame empty found.Nothing s stock expected 1) (view (groupsOf (empty .header)) s)
+answer (Received s) = received s stock
+answer (Stocked n) = received (commitOctets 96) (replicate n 0)
+answer (Formed size) = formNumbers (formOf size)
 answer (Deadline time) = started time .run .t0 ∷ []
 answer (Due time later) = slotNumbers (dueSlot (placed empty 7 (started time)) later)
 answer (DueAfter time heard later) = answerDueAfter (placed empty 7 (started time)) (commitOctets 96) heard later
@@ -284,6 +300,16 @@ edges =
     ∷ case (Received (confirmWith (element 1 ++ (221 ∷ [])))) (7 ∷ [])
     ∷ case (Received (confirmWith (elements 8 206))) (2 ∷ 0 ∷ 0 ∷ 1 ∷ 0 ∷ [])
     ∷ case (Received (confirmWith (elements 8 207))) (7 ∷ [])
+    -- "144 octets for each group in list order", here two: one octet too few, one too many, and as wide as a value's commits
+    ∷ case (Stocked 287) (4 ∷ [])
+    ∷ case (Stocked 288) (1 ∷ 0 ∷ 19 ∷ 0 ∷ 0 ∷ [])
+    ∷ case (Stocked 289) (4 ∷ [])
+    ∷ case (Stocked 396) (4 ∷ [])
+    -- "record size 864": one less, one more, and that of a record with commits as wide as a value's tell no form
+    ∷ case (Formed 863) (0 ∷ 0 ∷ 0 ∷ 0 ∷ [])
+    ∷ case (Formed 864) (864 ∷ 144 ∷ 64 ∷ 2 ∷ [])
+    ∷ case (Formed 865) (0 ∷ 0 ∷ 0 ∷ 0 ∷ [])
+    ∷ case (Formed 1080) (0 ∷ 0 ∷ 0 ∷ 0 ∷ [])
     -- "t0 set with Sync 0 at 4,294,967,290: deadline 34; not due at 33, due at 34"
     ∷ case (Deadline 4294967290) (34 ∷ [])
     ∷ case (Due 4294967290 33) []

@@ -5,17 +5,18 @@ use mathlib.Core.List.{List}
 use Prim.Native.Nat.{ℕ, _≤_, _<_}
 use native.Mathlib.Omega.{arith}
 use lib.Dec.{eqb, ltb, lit≤}
-use lib.ListN.{length}
+use lib.ListN.{length, take}
 use lib.Seq.{take-all}
 use borrow.Author.Tests.{eq-eqb, ne-eqb, lt-ltb, le-ltb, eqb-true}
 use Rattle.octets.specs.Octets.{Bytes, part}
 use Rattle.octets.specs.Scan.{if_then_else_}
 use Rattle.octets.specs.declared.Found.{Found}
 use Rattle.octets.specs.declared.Found.the-variants as found
-use Rattle.groups.specs.Groups.{width, freshOk}
+use Rattle.groups.specs.Groups.{Storable, freshOf, freshOk}
 use Rattle.record.specs.declared.Header.{Header}
-use Rattle.record.specs.declared.Peer.{Peer}
-use Rattle.record.specs.Layout.{groupsOf, decodePeer, noPeer}
+use Rattle.record.specs.Layout.{groupsOf, widthIn, decodePeer, noPeer}
+use Rattle.soundness.specs.Soundness.{headerOk}
+use Rattle.soundness.proofs.Storable.{header-room}
 use Rattle.table.specs.Table.{Table, decodeTable, encodeTable, recounted, slot, lookBy, sound, entry, Enters}
 use Rattle.table.proofs.Kept.{recounted-again}
 use Rattle.table.specs.declared.Entrance.{Entrance}
@@ -30,6 +31,7 @@ use Rattle.rules.specs.Said.{Does, saying}
 use Rattle.rule_laws.proofs.Slots.{frame-seated}
 use Rattle.message.specs.declared.View.{View}
 use Rattle.message.specs.View.{view, messageOf, message}
+use Rattle.message.proofs.Laws.{message-storable}
 use Rattle.answers.specs.declared.Answer.{Answer}
 use Rattle.answers.specs.declared.Refusal.{Refusal}
 use Rattle.answers.specs.declared.Refusal.the-variants as why
@@ -37,30 +39,30 @@ use Rattle.answers.specs.declared.Turn.{Turn}
 use Rattle.answers.specs.declared.Turn.the-variants.{Refused, Go}
 use Rattle.answers.specs.Answers.{Leaves, ends, refuse, seating, refused, said, answered, finishAt, finishes}
 use Rattle.answers.proofs.Laws.{clashed, turned-refused, turned-go}
-use Rattle.calls.specs.Calls.{termsOf, clockOf, brings, admitFrame, frameTurn, frameStep, receives}
+use Rattle.calls.specs.Calls.{termsOf, clockOf, brings, freshIn, admitFrame, frameTurn, frameStep, receives}
 use Rattle.engine.specs.declared.Admitted.{Admitted}
-use Rattle.engine.specs.InSlot.{Held, Met, Stocks, givenBy, slotless, Brought, refusedFrame, AdmitsFrame, TakesFrame, DoesAt, answersOutside}
+use Rattle.engine.specs.InSlot.{Held, Met, Stocks, Fitting, givenBy, slotless, Brought, refusedFrame, AdmitsFrame, TakesFrame, DoesAt, answersOutside}
 use Rattle.engine.proofs.Headers.{enters-met}
 use Rattle.engine.proofs.Windows.{look-seat, seat-done}
-use Rattle.engine.proofs.Starts.{seat-none, seated-terms, unseated-terms, brought, stocks}
+use Rattle.engine.proofs.Starts.{seat-none, seated-terms, unseated-terms, brought, stock-tested, stocks}
 
 -- ---- causes 4, 5, 6, 7
 
--- the tests, over the listed groups alone
-abbrev admission : List ℕ → Found → List ℕ → List ℕ → List ℕ → ℕ → Turn
-admission gs f frame fresh expected verdict =
-    if not (freshOk gs fresh) then Refused why.Fresh
+-- the tests, over the width and the listed groups alone
+abbrev admission : ℕ → List ℕ → Found → List ℕ → List ℕ → List ℕ → ℕ → Turn
+admission W gs f frame fresh expected verdict =
+    if not (freshOk W gs fresh) then Refused why.Fresh
     else if not (eqb (length expected) 32) then Refused why.Token
     else if ltb 1 verdict then Refused why.Verdict
     else if view gs frame .sequence is 0 then Refused why.Body
     else Go f
 
 module _ (h : Header) (f : Found) (frame fresh expected : List ℕ) (verdict : ℕ) where
-  admitted : (r : Turn) → r ≡ admission (groupsOf h) f frame fresh expected verdict → (T : Table) → h ≡ T .header → r ≡ admitFrame T f frame fresh expected verdict
+  admitted : (r : Turn) → r ≡ admission (widthIn h) (groupsOf h) f frame fresh expected verdict → (T : Table) → h ≡ T .header → r ≡ admitFrame T f frame fresh expected verdict
   unfolding admitFrame
-  admitted r q T e = q ∙ ap (λ (g : Header). admission (groupsOf g) f frame fresh expected verdict) e
+  admitted r q T e = q ∙ ap (λ (g : Header). admission (widthIn g) (groupsOf g) f frame fresh expected verdict) e
 
-  refuses : (r : Admitted) (c : Refusal) → r ≡ refusedFrame c → Refused c ≡ admission (groupsOf h) f frame fresh expected verdict → AdmitsFrame r h f frame fresh expected verdict
+  refuses : (r : Admitted) (c : Refusal) → r ≡ refusedFrame c → Refused c ≡ admission (widthIn h) (groupsOf h) f frame fresh expected verdict → AdmitsFrame r h f frame fresh expected verdict
   refuses r c e q =
       record {
         turn = admitted (r .turn) (ap (λ (x : Admitted). x .turn) e ∙ q);
@@ -68,34 +70,43 @@ module _ (h : Header) (f : Found) (frame fresh expected : List ℕ) (verdict : �
         short = subst (λ (x : Admitted). x .view .toklen ≤ 256) (sym e) (lit≤ tt);
       }
 
-  module _ (b : Bool) (eb : b ≡ freshOk (groupsOf h) fresh) (r : Admitted) where
+  module _ (w : ℕ) (b : Bool) (ew : w ≡ widthIn h) (eb : b ≡ freshOk w (groupsOf h) fresh) (r : Admitted) where
     pub frame-stock : not b ≡ true → r ≡ refusedFrame why.Fresh → AdmitsFrame r h f frame fresh expected verdict
-    frame-stock q e = let z : not (freshOk (groupsOf h) fresh) ≡ true = ap not (sym eb) ∙ q in refuses r why.Fresh e (rw z refl)
+    frame-stock q e = let z = stock-tested h fresh w b true ew eb q in refuses r why.Fresh e (rw z refl)
 
     pub frame-token : not b ≡ false → (length expected ≡ 32 → ⊥) → r ≡ refusedFrame why.Token → AdmitsFrame r h f frame fresh expected verdict
-    frame-token q d e = let z : not (freshOk (groupsOf h) fresh) ≡ false = ap not (sym eb) ∙ q in refuses r why.Token e (rw (z, ne-eqb _ _ d) refl)
+    frame-token q d e = let z = stock-tested h fresh w b false ew eb q in refuses r why.Token e (rw (z, ne-eqb _ _ d) refl)
 
     pub frame-verdict : not b ≡ false → length expected ≡ 32 → 1 < verdict → r ≡ refusedFrame why.Verdict → AdmitsFrame r h f frame fresh expected verdict
     frame-verdict q d v e =
-        let z : not (freshOk (groupsOf h) fresh) ≡ false = ap not (sym eb) ∙ q in
+        let z = stock-tested h fresh w b false ew eb q in
         refuses r why.Verdict e (rw (z, eq-eqb _ _ d, lt-ltb _ _ v) refl)
 
-    module _ (w : View) (ew : (w ≡ view (groupsOf h) frame) × (w .toklen ≤ 256)) where
-      pub frame-body : not b ≡ false → length expected ≡ 32 → verdict ≤ 1 → w .sequence ≡ 0 → r ≡ refusedFrame why.Body → AdmitsFrame r h f frame fresh expected verdict
+    module _ (seen : View) (es : (seen ≡ view (groupsOf h) frame) × (seen .toklen ≤ 256)) where
+      pub frame-body : not b ≡ false → length expected ≡ 32 → verdict ≤ 1 → seen .sequence ≡ 0 → r ≡ refusedFrame why.Body → AdmitsFrame r h f frame fresh expected verdict
       frame-body q d v n e =
-          let z : not (freshOk (groupsOf h) fresh) ≡ false = ap not (sym eb) ∙ q in
-          let y : eqb (view (groupsOf h) frame .sequence) 0 ≡ true = eq-eqb _ _ (ap (λ (x : View). x .sequence) (sym (ew .0)) ∙ n) in
+          let z = stock-tested h fresh w b false ew eb q in
+          let y : eqb (view (groupsOf h) frame .sequence) 0 ≡ true = eq-eqb _ _ (ap (λ (x : View). x .sequence) (sym (es .0)) ∙ n) in
           refuses r why.Body e (rw (z, eq-eqb _ _ d, le-ltb _ _ v, y) refl)
 
-      pub frame-go : not b ≡ false → length expected ≡ 32 → verdict ≤ 1 → (w .sequence ≡ 0 → ⊥) → r ≡ record { turn = Go f; view = w } → AdmitsFrame r h f frame fresh expected verdict
+      pub frame-go : not b ≡ false → length expected ≡ 32 → verdict ≤ 1 → (seen .sequence ≡ 0 → ⊥) → r ≡ record { turn = Go f; view = seen } → AdmitsFrame r h f frame fresh expected verdict
       frame-go q d v n e =
-          let z : not (freshOk (groupsOf h) fresh) ≡ false = ap not (sym eb) ∙ q in
-          let y : eqb (view (groupsOf h) frame .sequence) 0 ≡ false = ne-eqb _ _ (λ i. n (ap (λ (x : View). x .sequence) (ew .0) ∙ i)) in
+          let z = stock-tested h fresh w b false ew eb q in
+          let y : eqb (view (groupsOf h) frame .sequence) 0 ≡ false = ne-eqb _ _ (λ i. n (ap (λ (x : View). x .sequence) (es .0) ∙ i)) in
           record {
             turn = admitted (r .turn) (ap (λ (x : Admitted). x .turn) e ∙ rw (z, eq-eqb _ _ d, le-ltb _ _ v, y) refl);
-            view = λ k i. ap (λ (x : Admitted). x .view) e ∙ ew .0;
-            short = subst (λ (x : Admitted). x .view .toklen ≤ 256) (sym e) (ew .1);
+            view = λ k i. ap (λ (x : Admitted). x .view) e ∙ es .0;
+            short = subst (λ (x : Admitted). x .view .toklen ≤ 256) (sym e) (es .1);
           }
+
+-- ---- the listed groups by a number that is the count
+
+module _ (h : Header) {n : ℕ} (en : n ≡ h .settings .count) where
+  pub counted-fresh : (w : ℕ) (fresh : List ℕ) {b : Bool} → b ≡ freshOk w (take n (h .settings .groups)) fresh → b ≡ freshOk w (groupsOf h) fresh
+  counted-fresh w fresh q = q ∙ ap (λ (k : ℕ). freshOk w (take k (h .settings .groups)) fresh) en
+
+  pub counted-view : (frame : List ℕ) {seen : View} → (seen ≡ view (take n (h .settings .groups)) frame) × (seen .toklen ≤ 256) → (seen ≡ view (groupsOf h) frame) × (seen .toklen ≤ 256)
+  counted-view frame q = (q .0 ∙ ap (λ (k : ℕ). view (take k (h .settings .groups)) frame) en, q .1)
 
 -- ---- which entry a frame met
 
@@ -141,10 +152,10 @@ pub record Gone (t : List ℕ) (h : Header) (f : Found) (fresh expected : List �
   pub token : length expected ≡ 32
 
 goes : (T : Table) (f g : Found) (frame fresh expected : List ℕ) (verdict : ℕ) → admitFrame T f frame fresh expected verdict ≡ Go g
-    → (freshOk (groupsOf (T .header)) fresh ≡ true) × ((eqb (length expected) 32 ≡ true) × (f ≡ g))
+    → (freshOk (widthIn (T .header)) (groupsOf (T .header)) fresh ≡ true) × ((eqb (length expected) 32 ≡ true) × (f ≡ g))
 unfolding admitFrame
 goes T f g frame fresh expected verdict e =
-    go (freshOk (groupsOf (T .header)) fresh) (eqb (length expected) 32) (ltb 1 verdict) (view (groupsOf (T .header)) frame .sequence is 0) e
+    go (freshOk (widthIn (T .header)) (groupsOf (T .header)) fresh) (eqb (length expected) 32) (ltb 1 verdict) (view (groupsOf (T .header)) frame .sequence is 0) e
   where
     go : (b x v m : Bool) → (if not b then Refused why.Fresh else if not x then Refused why.Token else if v then Refused why.Verdict else if m then Refused why.Body else Go f) ≡ Go g
         → (b ≡ true) × ((x ≡ true) × (f ≡ g))
@@ -191,10 +202,10 @@ module _ (s : Step) (a : List ℕ) (x : Said) (r : Answer) (e : x ≡ saying s) 
       go true i = let y : _≡_ {A = ℕ} 0 1 = cc in absurd (omega arith)
       go false i = refl
 
--- the rule on a free record says what the step of the free record says
-pub outside-says : (h : Header) (g : Given) (m : Message) (fresh s left : List ℕ) (x : Said) → decodePeer width s ≡ noPeer
-    → Does x left (onFrame (terms g (groupsOf h)) (call g fresh) (decodePeer width s) m) → x ≡ saying (onFrame (terms g (groupsOf h)) (call g fresh) noPeer m)
-outside-says h g m fresh s left x e d = d .says ∙ ap (λ (p : Peer). saying (onFrame (terms g (groupsOf h)) (call g fresh) p m)) e
+-- the rule on a free record says what the step of the free record says, with the header's width
+pub outside-says : (h : Header) (g : Given) (m : Message) (w : ℕ) (fresh s left : List ℕ) (x : Said) → w ≡ widthIn h → decodePeer w s ≡ noPeer
+    → Does w x left (onFrame (terms g (groupsOf h)) (call g (freshOf w fresh)) (decodePeer w s) m) → x ≡ saying (onFrame (terms g (groupsOf h)) (call g (freshIn h fresh)) noPeer m)
+outside-says h g m w fresh s left x ew e d = d .says ∙ (λ i. saying (onFrame (terms g (groupsOf h)) (call g (freshOf (ew i) fresh)) (e i) m))
 
 -- no slot: the table stays
 outside-leaves : (t : List ℕ) (f : Found) (s : Step) (a : List ℕ) (r : Answer) → Bytes t → sound t ≡ true → seating (decodeTable t) f ≡ found.Nothing → r ≡ answersOutside s a → Leaves r t (finishes t f s a)
@@ -205,7 +216,7 @@ outside-leaves t f s a r b w e z = subst (λ (g : Found). Leaves r t (if s .refu
     go true q = record { answer = q; table = refl }
     go false q = record { answer = q; table = sym (recounted-again t b w) }
 
-module _ (t : List ℕ) (h : Header) (f : Found) (H : Held t h f) (g : Given) (B : Brought g h) (m : Message) (fresh : List ℕ) (r : Answer) where
+module _ (t : List ℕ) (h : Header) (f : Found) (H : Held t h f) (g : Given) (B : Brought g h) (m : Message) (fresh : List (List ℕ)) (r : Answer) where
   -- in the slot
   pub hear-seated : (k : ℕ) (j : Found) (u v : List ℕ) (x : Said) → Bytes t → j ≡ seating (decodeTable t) f → j ≡ found.At k
       → DoesAt x u t k (onFrame (terms g (groupsOf h)) (call g fresh) (slot (decodeTable t) k) m) → (r ≡ answered x (g .address)) × (v ≡ encodeTable (recounted (decodeTable u)))
@@ -234,13 +245,23 @@ module _ (t : List ℕ) (h : Header) (f : Found) (H : Held t h f) (g : Given) (B
 -- the step of the call
 pub frame-is : (t : List ℕ) (f : Found) (a : List ℕ) (time : ℕ) (frame fresh expected token : List ℕ) (verdict : ℕ) (h : Header) (w : View) (g : Given)
     → h ≡ decodeTable t .header → w ≡ view (groupsOf h) frame → token ≡ expected → g ≡ givenBy h a time token (verdict is 1)
-    → onFrame (termsOf (decodeTable t) f) (call g fresh) (lookBy (decodeTable t) f) (messageOf frame w) ≡ frameStep (decodeTable t) f a time frame fresh expected verdict
+    → onFrame (termsOf (decodeTable t) f) (call g (freshIn h fresh)) (lookBy (decodeTable t) f) (messageOf frame w) ≡ frameStep (decodeTable t) f a time frame fresh expected verdict
 unfolding frameStep message
 frame-is t f a time frame fresh expected token verdict h w g eh ew et eg =
     let W : w ≡ view (groupsOf (decodeTable t .header)) frame = ew ∙ ap (λ (x : Header). view (groupsOf x) frame) eh in
-    let C : call g fresh ≡ brings a (clockOf (decodeTable t .header) time) fresh expected (verdict is 1) =
-    ap (λ (x : Given). call x fresh) eg ∙ (λ i. brings a (clockOf (eh i) time) fresh (et i) (verdict is 1)) in
+    let C : call g (freshIn h fresh) ≡ brings a (clockOf (decodeTable t .header) time) (freshIn (decodeTable t .header) fresh) expected (verdict is 1) =
+    ap (λ (x : Given). call x (freshIn h fresh)) eg ∙ (λ i. brings a (clockOf (eh i) time) (freshIn (eh i) fresh) (et i) (verdict is 1)) in
     λ i. onFrame (termsOf (decodeTable t) f) (C i) (lookBy (decodeTable t) f) (messageOf frame (W i))
+
+-- the frame as it was read
+pub frame-fitting : (h : Header) (frame : List ℕ) (w : View) → headerOk h ≡ true → w ≡ view (groupsOf h) frame → w .toklen ≤ 256 → Fitting h frame w
+unfolding message
+frame-fitting h frame w ok e l =
+    let R = header-room h ok in
+    record {
+      token = l;
+      commit = subst (λ (x : View). Storable (widthIn h) (messageOf frame x .commit)) (sym e) (message-storable (widthIn h) (groupsOf h) frame (R .most) (R .each));
+    }
 
 -- what a call brings
 pub given-brought : (h : Header) (a : List ℕ) (time : ℕ) (expected : List ℕ) (v : Bool) (g : Given) → g ≡ givenBy h a time expected v → Brought g h
@@ -261,7 +282,7 @@ module _ (t a : List ℕ) (time : ℕ) (frame fresh expected : List ℕ) (verdic
   receive-refused c q z = turned-refused _ _ t a (A .turn) turn-is r c q z
 
   pub receive-went : (f : Found) (token : List ℕ) (g : Given) (u : List ℕ) → A .turn ≡ Go f → token ≡ expected → g ≡ givenBy (e .header) a time token (verdict is 1)
-      → Leaves r u (finishes t f (onFrame (termsOf (decodeTable t) f) (call g fresh) (lookBy (decodeTable t) f) (messageOf frame (A .view))) (g .address)) → Leaves r u (receives t a time frame fresh expected verdict)
+      → Leaves r u (finishes t f (onFrame (termsOf (decodeTable t) f) (call g (freshIn (e .header) fresh)) (lookBy (decodeTable t) f) (messageOf frame (A .view))) (g .address)) → Leaves r u (receives t a time frame fresh expected verdict)
   unfolding receives
   receive-went f token g u q et eg l =
       let G = receive-goes t a frame fresh expected verdict e E A K f q in

@@ -3,59 +3,74 @@ use mathlib.Core.Path.{_≡_, refl, sym, ap, _∙_, subst}
 use mathlib.Core.Logic.{_⊎_, inl, inr}
 use mathlib.Core.Bool.{true}
 use mathlib.Core.List.{List}
-use Prim.Native.Nat.{ℕ, _+_, _-_, _*_, _≤_, _<_}
+use Prim.Native.Nat.{ℕ, _+_, _-_, _≤_, _<_}
 use native.Mathlib.Omega.{arith}
 use native.Mathlib.Decide.{ℕ-discrete}
 use lib.Dec.{lit≤, lit<}
-use lib.ListN.{length, take, drop, length-drop}
+use lib.ListN.{length, take, drop, replicate, length-replicate}
 use lib.Seq.{length-take-le}
 use Rattle.octets.specs.Octets.{Bytes}
 use Rattle.octets.specs.declared.Found.{Found}
 use Rattle.octets.specs.declared.Found.the-variants as found
-use Rattle.groups.specs.Groups.{width, freshOk}
+use Rattle.groups.specs.Groups.{width, freshOk, Storable}
 use Rattle.groups.proofs.Fresh.{fresh-length}
 use Rattle.record.specs.declared.Header.{Header}
 use Rattle.record.specs.declared.Peer.{Peer}
 use Rattle.record.specs.declared.Run.{Run}
-use Rattle.record.specs.Layout.{groupsOf, decodePeer, decodeHeader, headerOf, recordSize, noPeer, noRun, periodOf, limitOf, factoryPeriod, factoryLimit}
-use Rattle.record.proofs.Laws.{ShapeRun, ShapePeer, shape-peer}
+use Rattle.record.specs.Layout.{groupsOf, widthIn, decodePeer, decodeHeader, headerOf, recordSize, recordAt, narrow, noPeer, noRun, periodOf, limitOf, factoryPeriod, factoryLimit}
+use Rattle.record.proofs.Laws.{ShapeRun, ShapePeer, shape-peer, take-zeros, form-width}
+use Rattle.record.proofs.Windows.{no-peer-left}
 use Rattle.soundness.specs.Soundness.{headerOk, highSync, runOk, peerOk}
-use Rattle.soundness.proofs.Laws.{header-form, settings-form, groups-form, run-states, run-is-committed, run-is-confirmed, run-unused, peer-in-use, peer-unused}
+use Rattle.soundness.proofs.Laws.{header-form, settings-form, header-groups, header-width, run-states, run-is-committed, run-is-confirmed, run-unused, peer-in-use, peer-unused}
 use Rattle.table.specs.Table as table
-use Rattle.table.specs.Table.{size, decodeTable, slots, slot, sound, entry, Sized, Enters}
+use Rattle.table.specs.Table.{decodeTable, slots, slot, sound, entry, Reached, Sized, Enters}
 use Rattle.table.specs.declared.Entrance.{Entrance}
 use Rattle.table.specs.declared.Entry.{Entry}
 use Rattle.table.specs.declared.Entry.the-variants as entry-is
-use Rattle.table.proofs.Laws.{sound-header, sound-peer, sound-whole, peers-held, slots-law, entry-at, entry-absent}
+use Rattle.table.proofs.Laws.{sound-header, sound-peer, sound-whole, peers-held, sized, reached, entry-at, entry-absent}
 use Rattle.table.proofs.Fit.{fit-slot, fit-decoded}
-use Rattle.table.proofs.Octets.{window-law}
+use Rattle.table.proofs.Octets.{window-law, window-length}
 use Rattle.rules.specs.declared.Clock.{Clock}
-use Rattle.rules.specs.Message.{Message}
 use Rattle.rules.specs.Given.{Paced, Whole, Stocked, Ready}
+use Rattle.message.specs.declared.View.{View}
+use Rattle.message.specs.View.{messageOf}
 use Rattle.answers.specs.Answers.{Seated, seating}
 use Rattle.answers.proofs.Laws.{Entered, old, new, entered-seated, seated-ready}
-use Rattle.engine.specs.InSlot.{Held, Met, Listing, Stocks, Clocked}
+use Rattle.engine.specs.InSlot.{Held, Met, Listing, Stocks, Fitting, Clocked}
 
 -- ---- the listed groups
 
 module _ (h : Header) (ok : headerOk h ≡ true) (three : length (h .settings .groups) ≡ 3) where
-  count-range : (1 ≤ h .settings .count) × (h .settings .count ≤ 2)
-  count-range = let g = groups-form _ _ (settings-form _ (header-form h ok .settings) .groups) in (g .some, g .few)
-
   pub count-fits : h .settings .count ≤ length (h .settings .groups)
-  count-fits = omega (arith, three, count-range .1)
+  count-fits = omega (arith, three, header-groups h ok .few)
 
   pub listed-count : h .settings .count ≡ length (take (h .settings .count) (h .settings .groups))
   listed-count = sym (length-take-le (h .settings .count) (h .settings .groups) count-fits)
 
-  -- a fresh commit for each
-  pub stocked : (fresh : List ℕ) → freshOk (groupsOf h) fresh ≡ true → Stocked (groupsOf h) fresh
-  stocked fresh e =
-      record {
-        some = omega (arith, listed-count, count-range .0);
-        few = omega (arith, listed-count, count-range .1);
-        each = fresh-length (groupsOf h) fresh e;
-      }
+  -- the same of a number that is the count
+  module _ {n : ℕ} (en : n ≡ h .settings .count) where
+    pub counted-fits : n ≤ length (h .settings .groups)
+    counted-fits = subst (λ (k : ℕ). k ≤ length (h .settings .groups)) (sym en) count-fits
+
+    pub counted-stock : {w : ℕ} → w ≡ widthIn h → (1 ≤ w) × ((w ≤ width) × (length (take n (h .settings .groups)) ≤ 8))
+    counted-stock ew =
+        let l : length (take n (h .settings .groups)) ≡ n = length-take-le n (h .settings .groups) counted-fits in
+        (omega (arith, ew, header-width h ok), (omega (arith, ew, form-width (h .geometry .size)), omega (arith, l, en, header-groups h ok .few)))
+
+  module _ (w : ℕ) (ew : w ≡ widthIn h) where
+    -- what the test of the stock asks
+    pub stock-asks : w ≤ width → (1 ≤ w) × ((w ≤ width) × (length (groupsOf h) ≤ 8))
+    stock-asks m = (omega (arith, ew, header-width h ok), (m, omega (arith, listed-count, header-groups h ok .few)))
+
+    -- a fresh commit for each
+    pub stocked : (fresh : List ℕ) → freshOk (widthIn h) (groupsOf h) fresh ≡ true → Stocked w (groupsOf h) fresh
+    stocked fresh e =
+        record {
+          wide = omega (arith, ew, header-width h ok);
+          some = omega (arith, listed-count, header-groups h ok .some);
+          few = omega (arith, listed-count, header-groups h ok .few);
+          each = fresh-length w (groupsOf h) fresh (ap (λ (W : ℕ). freshOk W (groupsOf h) fresh) ew ∙ e);
+        }
 
 -- ---- where the record is
 
@@ -67,8 +82,8 @@ module _ (t : List ℕ) (h : Header) (f : Found) (H : Held t h f) where
   unfolding decodeTable decodeHeader headerOf
   held-places = ap (λ (x : Header). length (x .settings .groups)) (H .header)
 
-  pub held-sized : Sized t (h .geometry .slots)
-  held-sized = let w = slots-law t h (H .seated .whole) (H .header) in record { number = w .0; long = omega (arith, w .1) }
+  pub held-sized : (w : ℕ) → (w ≡ widthIn h) × (w ≤ width) → Sized t w (h .geometry .slots)
+  held-sized w e = sized t h w (H .seated .whole) (H .header) (e .0) (e .1)
 
 -- a slot of it
 pub held-at : (t : List ℕ) (h : Header) (f : Found) (k : ℕ) → Held t h f → seating (decodeTable t) f ≡ found.At k → Held t h (found.At k)
@@ -81,6 +96,9 @@ held-at t h f k H e =
 pub held-ready : (t : List ℕ) (h : Header) (k : ℕ) → Held t h (found.At k) → table.Ready t k
 unfolding seating
 held-ready t h k H = seated-ready t (found.At k) k (H .seated) refl
+
+pub held-reached : (t : List ℕ) (h : Header) (k : ℕ) → Held t h (found.At k) → (w : ℕ) → (w ≡ widthIn h) × (w ≤ width) → Reached t w k
+held-reached t h k H w e = reached t h w k (H .seated .whole) (H .header) (e .0) (e .1) (H .seated .below k refl)
 
 -- what an address came to
 module _ (t a : List ℕ) (r : Entrance) (E : Enters r t a) where
@@ -102,10 +120,10 @@ met-listing t h E M = record { here = λ k q. held-header t h (found.At k) (M .h
 factory-paced : (κ : Clock) → κ .period ≡ factoryPeriod → κ .limit ≡ factoryLimit → Paced κ
 factory-paced κ p l = record { few = rw l (lit≤ tt); fits = rw (p, l) (lit< tt) }
 
-pub paced : (κ : Clock) (h : Header) → headerOk h ≡ true → Clocked κ h → Paced κ
+paced : (κ : Clock) (h : Header) → headerOk h ≡ true → Clocked κ h → Paced κ
 unfolding periodOf limitOf
 paced κ h ok c =
-    let s = settings-form (h .settings) (header-form h ok .settings) in
+    let s = settings-form _ (h .settings) (header-form h ok .settings) in
     factory-paced κ (c .period ∙ rw (s .period) refl) (c .limit ∙ rw (s .limit) refl)
 
 -- ---- the record's octets: Sync and Sc are in their range
@@ -139,32 +157,56 @@ slot-range t k b S =
     let lk : k < length (decodeTable t .peers) = omega (arith, peers-held t (slots (decodeTable t)) (sound-whole t w), l) in
     peer-range _ _ _ (slot (decodeTable t) k) (shape-peer (fit-slot (decodeTable t) k (fit-decoded t _ b (sound-whole t w)) lk)) (sound-peer t w k l)
 
--- the octets of a slot, as they are lent
-abbrev pub window : List ℕ → ℕ → List ℕ
-window t k = take (32 + size * k + size - (32 + size * k)) (drop (32 + size * k) t)
+-- the octets of a slot, as they are lent: its place and size as the code works them out
+abbrev pub window : List ℕ → ℕ → ℕ → List ℕ
+window t a n = take (a + n - a) (drop a t)
 
-module _ (t : List ℕ) (h : Header) (k : ℕ) (H : Held t h (found.At k)) where
-  pub window-long : length (window t k) ≡ recordSize width
-  window-long =
-      let f = held-ready t h k H .fits in
-      let n : 32 + size * k + size - (32 + size * k) ≡ recordSize width = omega arith in
-      length-take-le _ (drop (32 + size * k) t) (simp length-drop (omega arith)) ∙ n
+module _ (t : List ℕ) (h : Header) (k : ℕ) (H : Held t h (found.At k)) (w : ℕ) (ew : (w ≡ widthIn h) × (w ≤ width)) (a n : ℕ) (ea : a ≡ recordAt w k) (en : n ≡ recordSize w) where
+  pub window-is : decodePeer w (window t a n) ≡ slot (decodeTable t) k
+  window-is = window-law t w k a (held-reached t h k H w ew) ea n en
 
-  pub window-is : decodePeer width (window t k) ≡ slot (decodeTable t) k
-  window-is = window-law t k (held-ready t h k H .fits)
-
-  pub window-whole : (κ : Clock) → Bytes t → Clocked κ h → Whole κ (window t k)
+  pub window-whole : (κ : Clock) → Bytes t → Clocked κ h → Whole κ w (window t a n)
   window-whole κ b c =
       let e : κ .limit ≡ limitOf (decodeTable t .header .settings .limit) = c .limit ∙ ap (λ (x : Header). limitOf (x .settings .limit)) (H .header) in
       let r = subst (λ (p : Peer). InRange (highSync (decodeTable t .header)) (p .run)) (sym window-is) (slot-range t k b (H .seated)) in
-      record { paced = paced κ h (held-header t h (found.At k) H) c; size = window-long; sync = omega (arith, e, r .0); sc = omega (arith, e, r .1) }
+      record {
+        paced = paced κ h (held-header t h (found.At k) H) c;
+        most = ew .1;
+        size = window-length t w k a (held-reached t h k H w ew) ea n en;
+        sync = omega (arith, e, r .0);
+        sc = omega (arith, e, r .1);
+      }
 
--- a free record outside the table
-pub blank-whole : (κ : Clock) (s : List ℕ) → Paced κ → length s ≡ recordSize width → decodePeer width s ≡ noPeer → Whole κ s
-blank-whole κ s p l z =
-    let r = subst (λ (q : Peer). InRange (κ .limit + 1) (q .run)) (sym z) (free-range (κ .limit + 1)) in
-    record { paced = p; size = l; sync = r .0; sc = omega (arith, r .1) }
+-- a free record outside the table: as many zeros as a record has octets, of those that serve the largest
+module _ (h : Header) (ok : headerOk h ≡ true) (w : ℕ) (ew : (w ≡ widthIn h) × (w ≤ width)) (n : ℕ) (en : n ≡ recordSize w) where
+  abbrev blank : List ℕ
+  blank = take n (replicate (narrow .size) 0)
+
+  pub blank-fits : n ≤ narrow .size
+  blank-fits = omega (arith, ew .0, en, header-width h ok)
+
+  blank-zeros : blank ≡ replicate n 0
+  blank-zeros = take-zeros n (narrow .size) blank-fits
+
+  pub blank-length : n ≡ length blank
+  blank-length = sym (ap length blank-zeros ∙ length-replicate {A = ℕ} n 0)
+
+  pub blank-free : decodePeer w blank ≡ noPeer
+  blank-free = ap (decodePeer w) blank-zeros ∙ no-peer-left w n (ew .1) en
+
+  pub blank-whole : (κ : Clock) → Clocked κ h → Whole κ w blank
+  blank-whole κ c =
+      let r = subst (λ (p : Peer). InRange (κ .limit + 1) (p .run)) (sym blank-free) (free-range (κ .limit + 1)) in
+      record { paced = paced κ h ok c; most = ew .1; size = sym blank-length ∙ en; sync = r .0; sc = omega (arith, r .1) }
 
 -- what a rule for a frame asks
-pub ready : (κ : Clock) (s : List ℕ) (h : Header) (fresh : List ℕ) (m : Message) → Whole κ s → Stocks h fresh → m .toklen ≤ 256 → Ready κ s (groupsOf h) fresh m
-ready κ s h fresh m W S l = record { record-is = W; stock = stocked h (S .header) (S .places) fresh (S .each); token = l }
+pub ready : (κ : Clock) (w : ℕ) (s : List ℕ) (h : Header) (fresh body : List ℕ) (v : View) → w ≡ widthIn h → Whole κ w s → Stocks h fresh → Fitting h body v
+    → Ready κ w s (groupsOf h) fresh (messageOf body v)
+ready κ w s h fresh body v e W S F =
+    record {
+      record-is = W;
+      stock = stocked h (S .header) (S .places) w e fresh (S .each);
+      token = F .token;
+      scalars = omega (arith, e, header-width h (S .header));
+      commit = subst (λ (x : ℕ). Storable x (messageOf body v .commit)) (sym e) (F .commit);
+    }

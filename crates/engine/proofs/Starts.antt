@@ -2,7 +2,7 @@
 use mathlib.Core.Path.{_≡_, refl, sym, ap, _∙_, subst}
 use mathlib.Core.Bool.{Bool, true, false, not, _&&_}
 use mathlib.Core.List.{List}
-use Prim.Native.Nat.{ℕ}
+use Prim.Native.Nat.{ℕ, _≤_}
 use native.Mathlib.Omega.{arith}
 use lib.ListN.{length, replicate}
 use borrow.Author.Tests.{eq-eqb, ne-eqb}
@@ -13,7 +13,7 @@ use Rattle.octets.specs.declared.Found.the-variants as found
 use Rattle.groups.specs.Groups.{width, freshOk}
 use Rattle.record.specs.declared.Header.{Header}
 use Rattle.record.specs.declared.Settings.{Settings}
-use Rattle.record.specs.Layout.{groupsOf, decodePeer, recordSize, noPeer, noRun, periodOf, limitOf}
+use Rattle.record.specs.Layout.{groupsOf, widthIn, decodePeer, recordSize, noPeer, noRun, periodOf, limitOf}
 use Rattle.record.proofs.Windows.{no-peer-left}
 use Rattle.table.specs.Table.{Table, decodeTable, encodeTable, recounted, slot, lookBy, entry, Enters}
 use Rattle.table.specs.declared.Entrance.{Entrance}
@@ -36,7 +36,7 @@ use Rattle.answers.specs.declared.Turn.{Turn}
 use Rattle.answers.specs.declared.Turn.the-variants.{Refused, Go}
 use Rattle.answers.specs.Answers.{Leaves, ends, seating, refused, quiet, answered, finishes, turned}
 use Rattle.answers.proofs.Laws.{clashed, full-refused, turned-refused, turned-go}
-use Rattle.calls.specs.Calls.{crowded, full, termsOf, clockOf, brings, initializes, admitStart, startTurn, startStep, initiates, killTurn, killStep, kills}
+use Rattle.calls.specs.Calls.{crowded, full, termsOf, clockOf, brings, freshIn, initializes, admitStart, startTurn, startStep, initiates, killTurn, killStep, kills}
 use Rattle.engine.specs.InSlot.{Held, Met, Stocks, givenBy, slotless, Clocked, Brought, DoesAt}
 use Rattle.engine.proofs.Headers.{held-header, enters-met, held-places}
 use Rattle.engine.proofs.Windows.{look-seat, seat-done}
@@ -100,9 +100,13 @@ state-none T f e = rw e refl
 
 -- ---- Start: causes 4 and 8
 
-module _ (t : List ℕ) (h : Header) (f : Found) (fresh : List ℕ) (b : Bool) (eh : h ≡ decodeTable t .header) (eb : b ≡ freshOk (groupsOf h) fresh) where
-  of-table : (x : Bool) → not b ≡ x → not (freshOk (groupsOf (decodeTable t .header)) fresh) ≡ x
-  of-table x q = ap (λ (g : Header). not (freshOk (groupsOf g) fresh)) (sym eh) ∙ ap not (sym eb) ∙ q
+-- the test of the stock, with the width that the code has
+pub stock-tested : (h : Header) (fresh : List ℕ) (w : ℕ) (b x : Bool) → w ≡ widthIn h → b ≡ freshOk w (groupsOf h) fresh → not b ≡ x → not (freshOk (widthIn h) (groupsOf h) fresh) ≡ x
+stock-tested h fresh w b x ew eb q = ap (λ (W : ℕ). not (freshOk W (groupsOf h) fresh)) (sym ew) ∙ ap not (sym eb) ∙ q
+
+module _ (t : List ℕ) (h : Header) (f : Found) (fresh : List ℕ) (w : ℕ) (b : Bool) (eh : h ≡ decodeTable t .header) (ew : w ≡ widthIn h) (eb : b ≡ freshOk w (groupsOf h) fresh) where
+  of-table : (x : Bool) → not b ≡ x → not (freshOk (widthIn (decodeTable t .header)) (groupsOf (decodeTable t .header)) fresh) ≡ x
+  of-table x q = ap (λ (g : Header). not (freshOk (widthIn g) (groupsOf g) fresh)) (sym eh) ∙ stock-tested h fresh w b x ew eb q
 
   pub start-stock : not b ≡ true → Refused why.Fresh ≡ admitStart (decodeTable t) f fresh
   unfolding admitStart
@@ -125,9 +129,9 @@ pub start-by : (t fresh : List ℕ) (E x : Entry) (r : Turn) → E ≡ x → r �
 start-by t fresh E x r q w = w ∙ ap (λ (y : Entry). startTurn y t fresh) (sym q)
 
 -- a start that goes on
-goes : (T : Table) (f g : Found) (fresh : List ℕ) → admitStart T f fresh ≡ Go g → (freshOk (groupsOf (T .header)) fresh ≡ true) × (f ≡ g)
+goes : (T : Table) (f g : Found) (fresh : List ℕ) → admitStart T f fresh ≡ Go g → (freshOk (widthIn (T .header)) (groupsOf (T .header)) fresh ≡ true) × (f ≡ g)
 unfolding admitStart
-goes T f g fresh e = go (freshOk (groupsOf (T .header)) fresh) (hasRun (lookBy T f)) e
+goes T f g fresh e = go (freshOk (widthIn (T .header)) (groupsOf (T .header)) fresh) (hasRun (lookBy T f)) e
   where
     go : (b v : Bool) → (if not b then Refused why.Fresh else if v then Refused why.Running else Go f) ≡ Go g → (b ≡ true) × (f ≡ g)
     go false v q = clashed q
@@ -135,8 +139,9 @@ goes T f g fresh e = go (freshOk (groupsOf (T .header)) fresh) (hasRun (lookBy T
     go true false q = (refl, cc)
 
 -- it has a table, a header and fresh commits
-pub stocks : (t : List ℕ) (h : Header) (f : Found) (fresh : List ℕ) → Held t h f → freshOk (groupsOf (decodeTable t .header)) fresh ≡ true → Stocks h fresh
-stocks t h f fresh H e = record { header = held-header t h f H; places = held-places t h f H; each = ap (λ (g : Header). freshOk (groupsOf g) fresh) (H .header) ∙ e }
+pub stocks : (t : List ℕ) (h : Header) (f : Found) (fresh : List ℕ) → Held t h f → freshOk (widthIn (decodeTable t .header)) (groupsOf (decodeTable t .header)) fresh ≡ true → Stocks h fresh
+stocks t h f fresh H e =
+    record { header = held-header t h f H; places = held-places t h f H; each = ap (λ (g : Header). freshOk (widthIn g) (groupsOf g) fresh) (H .header) ∙ e }
 
 pub start-goes : (t : List ℕ) (h : Header) (fresh : List ℕ) (E : Entry) (f : Found) → Met t h E → startTurn E t fresh ≡ Go f → Held t h f × Stocks h fresh
 unfolding startTurn
@@ -154,14 +159,16 @@ start-goes t h fresh (entry-is.At k) f M e =
 module _ (t : List ℕ) (h : Header) (f : Found) (H : Held t h f) (a : List ℕ) (time : ℕ) (fresh : List ℕ) (r : Answer) where
   -- the step in the slot, finished
   pub started : (k : ℕ) (g : Found) (u v : List ℕ) (x : Said) (y : Given) → Bytes t → g ≡ seating (decodeTable t) f → g ≡ found.At k → y ≡ givenBy h a time (replicate 32 0) false
-      → DoesAt x u t k (onStart (terms y (groupsOf h)) (call y fresh) (slot (decodeTable t) k))
+      → DoesAt x u t k (onStart (terms y (groupsOf h)) (call y (freshIn h fresh)) (slot (decodeTable t) k))
       → (r ≡ answered x a) × (v ≡ encodeTable (recounted (decodeTable u))) → Leaves r v (finishes t f (startStep (decodeTable t) f a time fresh) a)
   unfolding startStep
   started k g u v x y b p q ey d w =
       let e : seating (decodeTable t) f ≡ found.At k = sym p ∙ q in
       let T = seated-terms (givenBy h a time (replicate 32 0) false) h (decodeTable t) f k (H .header) (brought h a time (replicate 32 0) false) e in
       let P = look-seat t f k b (H .seated) e in
-      seat-done t f k u v a x _ _ r e (start-seated _ _ _ (seat-free (decodeTable t) f k e)) ((λ i. onStart (sym T i) (brings a (clockOf (sym (H .header) i) time) fresh (replicate 32 0) false) (P i)) ∙ (λ i. onStart (terms (sym ey i) (groupsOf h)) (call (sym ey i) fresh) (slot (decodeTable t) k))) d w
+      seat-done t f k u v a x _ _ r e (start-seated _ _ _ (seat-free (decodeTable t) f k e))
+      ((λ i. onStart (sym T i) (brings a (clockOf (sym (H .header) i) time) (freshIn (sym (H .header) i) fresh) (replicate 32 0) false) (P i))
+      ∙ (λ i. onStart (terms (sym ey i) (groupsOf h)) (call (sym ey i) (freshIn h fresh)) (slot (decodeTable t) k))) d w
 
   pub start-full : (g : Found) → g ≡ seating (decodeTable t) f → g ≡ found.Nothing → r ≡ refused why.Full → Leaves r t (finishes t f (startStep (decodeTable t) f a time fresh) a)
   unfolding startStep
@@ -185,9 +192,9 @@ module _ (t a : List ℕ) (time : ℕ) (fresh : List ℕ) (e : Entrance) (E : En
 
 -- ---- Kill
 
-pub killed : (y : List ℕ) (n : ℕ) (x : Said) → n ≡ recordSize width → y ≡ replicate n 0 → x ≡ sayingFrames frames.None → Does x y killStep
+pub killed : (w : ℕ) (y : List ℕ) (n : ℕ) (x : Said) → w ≤ width → n ≡ recordSize w → y ≡ replicate n 0 → x ≡ sayingFrames frames.None → Does w x y killStep
 unfolding killStep
-killed y n x h e q = record { leaves = ap (decodePeer width) e ∙ no-peer-left n h; says = q }
+killed w y n x m h e q = record { leaves = ap (decodePeer w) e ∙ no-peer-left w n m h; says = q }
 
 pub kill-seated : killStep .refused ≡ false
 unfolding killStep

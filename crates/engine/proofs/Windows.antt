@@ -2,19 +2,19 @@
 use mathlib.Core.Path.{_≡_, refl, sym, ap, _∙_, subst}
 use mathlib.Core.Bool.{false}
 use mathlib.Core.List.{List}
-use Prim.Native.Nat.{ℕ, _+_, _-_, _*_}
+use Prim.Native.Nat.{ℕ, _+_, _-_, _≤_}
 use native.Mathlib.Omega.{arith}
 use lib.ListN.{length}
 use borrow.Rule.Slice.PartMut.{putMid}
-use Rattle.octets.specs.Octets.{Bytes}
+use Rattle.octets.specs.Octets.{Bytes, put}
 use Rattle.octets.proofs.Laws.{mid-put}
 use Rattle.octets.specs.declared.Found.{Found}
 use Rattle.octets.specs.declared.Found.the-variants as found
 use Rattle.groups.specs.Groups.{width}
 use Rattle.record.specs.declared.Header.{Header}
 use Rattle.record.specs.declared.Peer.{Peer}
-use Rattle.record.specs.Layout.{decodePeer}
-use Rattle.table.specs.Table.{size, decodeTable, slots, slot, lookBy, withPeer, recounted, encodeTable, standingOf, Changed}
+use Rattle.record.specs.Layout.{widthIn, decodePeer, recordSize, recordAt}
+use Rattle.table.specs.Table.{widthOf, decodeTable, slots, slot, lookBy, withPeer, recounted, encodeTable, standingOf, Changed}
 use Rattle.table.specs.declared.Standing.{Standing}
 use Rattle.table.proofs.Changed.{with-peer-decoded, changed}
 use Rattle.rules.specs.declared.Said.{Said}
@@ -24,24 +24,30 @@ use Rattle.answers.specs.declared.Answer.{Answer}
 use Rattle.answers.specs.Answers.{Leaves, Seated, seating, answered, finishes}
 use Rattle.answers.proofs.Laws.{free-record, finish-law}
 use Rattle.engine.specs.InSlot.{Held, DoesAt}
-use Rattle.engine.proofs.Headers.{held-ready, window, window-is}
+use Rattle.engine.proofs.Headers.{held-ready, held-reached, window, window-is}
 
 module _ (t : List ℕ) (h : Header) (k : ℕ) (H : Held t h (found.At k)) where
-  -- what a rule leaves in the slot's octets
-  pub at-does : (y : List ℕ) (x : Said) (s : Step) → length y ≡ 32 + size * k + size - (32 + size * k) → Does x y s
-      → DoesAt x (putMid (32 + size * k) (32 + size * k + size - (32 + size * k)) t y) t k s
-  at-does y x s n d =
-      let m : length y ≡ size = omega arith in
-      let R = held-ready t h k H in
-      record {
-        leaves = ap decodeTable (mid-put (32 + size * k) _ t y n) ∙ with-peer-decoded t y (slots (decodeTable t)) k (R .whole) (R .below) m ∙ ap (withPeer (decodeTable t) k) (d .leaves);
-        says = d .says;
-      }
+  module _ (w : ℕ) (ew : (w ≡ widthIn h) × (w ≤ width)) (a n : ℕ) (ea : a ≡ recordAt w k) (en : n ≡ recordSize w) where
+    -- what a rule leaves in the slot's octets
+    pub at-does : (y : List ℕ) (x : Said) (s : Step) → length y ≡ a + n - a → Does w x y s → DoesAt x (putMid a (a + n - a) t y) t k s
+    at-does y x s l d =
+        let z : w ≡ widthOf t = held-reached t h k H w ew .told in
+        let m : length y ≡ recordSize w = omega arith in
+        let R = held-ready t h k H in
+        record {
+          leaves =
+              ap decodeTable (mid-put a _ t y l ∙ ap (λ (b : ℕ). put t b y) (ea ∙ ap (λ (W : ℕ). recordAt W k) z))
+              ∙ with-peer-decoded t y (slots (decodeTable t)) k (R .whole) (R .below) (m ∙ ap recordSize z)
+              ∙ ap (withPeer (decodeTable t) k) (ap (λ (W : ℕ). decodePeer W y) (sym z) ∙ d .leaves);
+          says = d .says;
+        }
 
-  -- the same of a step of the record that lies there
-  pub at-step : (S : Peer → Step) (y : List ℕ) (x : Said) → length y ≡ 32 + size * k + size - (32 + size * k) → Does x y (S (decodePeer width (window t k)))
-      → DoesAt x (putMid (32 + size * k) (32 + size * k + size - (32 + size * k)) t y) t k (S (slot (decodeTable t) k))
-  at-step S y x n d = at-does y x (S (slot (decodeTable t) k)) n (subst (λ (p : Peer). Does x y (S p)) (window-is t h k H) d)
+    -- the same of a step of the record that lies there, and of the header's width
+    pub at-step : (S : ℕ → Peer → Step) (y : List ℕ) (x : Said) → length y ≡ a + n - a → Does w x y (S w (decodePeer w (window t a n)))
+        → DoesAt x (putMid a (a + n - a) t y) t k (S (widthIn h) (slot (decodeTable t) k))
+    at-step S y x l d =
+        at-does y x (S (widthIn h) (slot (decodeTable t) k)) l
+        (subst (λ (W : ℕ). Does w x y (S W (slot (decodeTable t) k))) (ew .0) (subst (λ (p : Peer). Does w x y (S w p)) (window-is t h k H w ew a n ea en) d))
 
   -- what the counts ask once it is done
   pub slot-changed : (u : List ℕ) (x : Said) (s : Step) (was : Standing) → length u ≡ length t → DoesAt x u t k s → was ≡ standingOf (slot (decodeTable t) k) → Changed u k h was

@@ -7,9 +7,9 @@ use lib.ListN.{length}
 use Rattle.octets.specs.Scan.{if_then_else_}
 use Rattle.octets.specs.declared.Found.{Found}
 use Rattle.octets.specs.declared.Found.the-variants as found
-use Rattle.groups.specs.Groups.{freshOk}
+use Rattle.groups.specs.Groups.{Storable, freshOk}
 use Rattle.record.specs.declared.Header.{Header}
-use Rattle.record.specs.Layout.{groupsOf, periodOf, limitOf}
+use Rattle.record.specs.Layout.{widthIn, groupsOf, periodOf, limitOf}
 use Rattle.soundness.specs.Soundness.{headerOk}
 use Rattle.table.specs.Table.{Table, decodeTable, withPeer}
 use Rattle.table.specs.declared.Entry.{Entry}
@@ -19,7 +19,8 @@ use Rattle.rules.specs.declared.Given.{Given}
 use Rattle.rules.specs.declared.Said.{Said}
 use Rattle.rules.specs.Book.{Step}
 use Rattle.rules.specs.Said.{saying}
-use Rattle.message.specs.View.{confirmView, view}
+use Rattle.message.specs.declared.View.{View}
+use Rattle.message.specs.View.{confirmView, view, messageOf}
 use Rattle.answers.specs.declared.Answer.{Answer}
 use Rattle.answers.specs.declared.Refusal.{Refusal}
 use Rattle.answers.specs.declared.Refusal.the-variants as why
@@ -49,7 +50,12 @@ pub record Listing (h : Header) (E : Entry) : Type 0 where
 pub record Stocks (h : Header) (fresh : List ℕ) : Type 0 where
   pub header : headerOk h ≡ true
   pub places : length (h .settings .groups) ≡ 3
-  pub each : freshOk (groupsOf h) fresh ≡ true
+  pub each : freshOk (widthIn h) (groupsOf h) fresh ≡ true
+
+-- a frame as it was read: its token is short, and its commit is stored with the table's width without loss
+pub record Fitting (h : Header) (body : List ℕ) (v : View) : Type 0 where
+  pub token : v .toklen ≤ 256
+  pub commit : Storable (widthIn h) (messageOf body v .commit)
 
 -- what the header and a call give a rule, the peer having a slot, or not
 abbrev pub givenBy : Header → List ℕ → ℕ → List ℕ → Bool → Given

@@ -2,34 +2,36 @@
 // view of a frame's body are handed on: no function loads or reads them again.
 ghost use mathlib.Core.Path.{_≡_};
 ghost use mathlib.Core.List.{[]};
-ghost use Prim.Native.Nat.{_+_, _*_, _≤_};
+ghost use Prim.Native.Nat.{_≤_};
 ghost use lib.ListN.{length};
 ghost use Rattle.octets.specs.Scan.{firstBelow};
 ghost use Rattle.octets.specs.declared.Found.the-variants.{At};
-ghost use Rattle.record.specs.Layout.{groupsOf, noPeer};
+ghost use Rattle.record.specs.Layout.{widthIn, groupsOf, noPeer};
 ghost use mathlib.Core.Bool.{true};
 ghost use Rattle.soundness.specs.Soundness.{headerOk};
-ghost use Rattle.table.specs.Table.{size, decodeTable, slot, lookBy, Sized};
+ghost use Rattle.table.specs.Table.{decodeTable, slot, lookBy, Reaches, Reached, Sized};
 ghost use Rattle.rules.specs.Book.{expired, onStart, onFrame, onClock};
 ghost use Rattle.rules.specs.Given.{terms, call};
 ghost use Rattle.message.specs.View.{messageOf};
 ghost use Rattle.answers.specs.Answers.{Leaves, finishes};
-ghost use Rattle.calls.specs.Calls.{termsOf, crowded, clockOf, initializes, admitStart, startTurn, startStep, initiates, killStep, kills, receives, dueSlot, clockStep, expires};
-ghost use Rattle.engine.specs.InSlot.{Held, Met, Stocks, Listing, givenBy, slotless, Clocked, Brought, refusedFrame, AdmitsFrame, TakesFrame, DoesAt, answersOutside};
+ghost use Rattle.calls.specs.Calls.{termsOf, crowded, clockOf, freshIn, initializes, admitStart, startTurn, startStep, initiates, killStep, kills, receives, dueSlot, clockStep, expires};
+ghost use Rattle.engine.specs.InSlot.{Held, Met, Stocks, Fitting, Listing, givenBy, slotless, Clocked, Brought, refusedFrame, AdmitsFrame, TakesFrame, DoesAt, answersOutside};
 use answers::Answer;
 use answers::Refusal;
 use answers::Turn;
 use message::View;
 use octets::Found;
-use record::HEADER;
 use record::Header;
-use record::RECORD;
+use record::NARROW_RECORD;
 use record::Settings;
 use rules::Clock;
 use rules::Frames;
 use rules::Given;
 use rules::Said;
 use table::Entry;
+
+// The octets of the largest record.
+const MOST: usize = NARROW_RECORD;
 
 // Set up (also clears). Cause 1.
 pub fn initialize(t: &mut [u8], own: [u8; 6], settings: Settings) -> Answer
@@ -107,8 +109,9 @@ fn state_of(t: &[u8], h: Header, f: Found) -> u8
     requires { ⌜ Held (now t) h f ⌝ }
     ensures { λ r. ⌜ r ≡ lookBy (decodeTable (now (t .entry))) f .run .state ⌝ }
 {
+    let w = record::width_of(h);
     match f {
-        Found::At(k) => table::state_at(t, k),
+        Found::At(k) => table::state_at(t, w, k),
         Found::Nothing => 0,
     }
 }
@@ -120,7 +123,8 @@ fn admit_start(t: &[u8], h: Header, f: Found, fresh: &[u8]) -> Turn
 {
     let list = h.settings.groups;
     let n = h.settings.count as usize;
-    if !groups::fresh_ok(&list[..n], fresh) {
+    let w = record::width_of(h);
+    if !groups::fresh_ok(&list[..n], fresh, w) {
         return Turn::Refused(Refusal::Fresh);
     }
     let state = state_of(t, h, f);
@@ -146,13 +150,14 @@ fn start_turn(t: &[u8], h: Header, entry: Entry, fresh: &[u8]) -> Turn
 // The rule for a start, in a slot.
 fn start_at(t: &mut [u8], k: usize, h: Header, g: Given, fresh: &[u8]) -> Said
     requires { ⌜ Held (now t) h (At k) × (Stocks h (now fresh) × Clocked (g .clock) h) ⌝ }
-    ensures { λ x. ⌜ DoesAt x (now (t .exit)) (now (t .entry)) k (onStart (terms g (groupsOf h)) (call g (now (fresh .entry))) (slot (decodeTable (now (t .entry))) k)) ⌝ }
+    ensures { λ x. ⌜ DoesAt x (now (t .exit)) (now (t .entry)) k (onStart (terms g (groupsOf h)) (call g (freshIn h (now (fresh .entry)))) (slot (decodeTable (now (t .entry))) k)) ⌝ }
 {
     let list = h.settings.groups;
     let n = h.settings.count as usize;
-    let a = HEADER + RECORD * k;
-    let e = a + RECORD;
-    machine::on_start(&mut t[a..e], g, &list[..n], fresh)
+    let w = record::width_of(h);
+    let a = record::record_at(w, k);
+    let e = a + record::record_size(w);
+    machine::on_start(&mut t[a..e], w, g, &list[..n], fresh)
 }
 
 // A start that causes 2, 3, 4 and 8 do not refuse. Cause 9.
@@ -161,9 +166,10 @@ fn start(t: &mut [u8], h: Header, f: Found, address: [u8; 6], time: u32, fresh: 
     ensures { λ r. ⌜ Leaves r (now (t .exit)) (finishes (now (t .entry)) f (startStep (decodeTable (now (t .entry))) f address time (now (fresh .entry))) address) ⌝ }
 {
     let n = h.geometry.slots as usize;
-    match answers::seat_of(t, n, f) {
+    let w = record::width_of(h);
+    match answers::seat_of(t, w, n, f) {
         Found::At(k) => {
-            let was = table::standing_of(t, k);
+            let was = table::standing_of(t, w, k);
             let none = [0u8; 32];
             let g = given_of(h, address, time, none, false);
             let said = start_at(t, k, h, g, fresh);
@@ -193,8 +199,9 @@ fn kill_at(t: &mut [u8], k: usize, h: Header) -> Said
     requires { ⌜ Held (now t) h (At k) ⌝ }
     ensures { λ x. ⌜ DoesAt x (now (t .exit)) (now (t .entry)) k killStep ⌝ }
 {
-    let a = HEADER + RECORD * k;
-    let e = a + RECORD;
+    let w = record::width_of(h);
+    let a = record::record_at(w, k);
+    let e = a + record::record_size(w);
     record::clear(&mut t[a..e]);
     acts::say_frames(Frames::None)
 }
@@ -204,7 +211,8 @@ fn free(t: &mut [u8], k: usize, h: Header, address: [u8; 6]) -> Answer
     requires { ⌜ Held (now t) h (At k) ⌝ }
     ensures { λ r. ⌜ Leaves r (now (t .exit)) (finishes (now (t .entry)) (At k) killStep address) ⌝ }
 {
-    let was = table::standing_of(t, k);
+    let w = record::width_of(h);
+    let was = table::standing_of(t, w, k);
     let said = kill_at(t, k, h);
     answers::finish_at(t, k, h, was, said, address)
 }
@@ -245,18 +253,19 @@ fn refuse_frame(c: Refusal) -> Admitted
 // Causes 4, 5, 6, 7.
 fn admit_frame(
     h: Header,
+    w: usize,
+    n: usize,
     f: Found,
     body: &[u8],
     fresh: &[u8],
     expected: &[u8],
     verdict: u8,
 ) -> Admitted
-    requires { ⌜ headerOk h ≡ true ⌝ }
+    requires { ⌜ (headerOk h ≡ true) × ((w ≡ widthIn h) × (n ≡ h .settings .count)) ⌝ }
     ensures { λ r. ⌜ AdmitsFrame r h f (now (body .entry)) (now (fresh .entry)) (now (expected .entry)) verdict ⌝ }
 {
     let list = h.settings.groups;
-    let n = h.settings.count as usize;
-    if !groups::fresh_ok(&list[..n], fresh) {
+    if !groups::fresh_ok(&list[..n], fresh, w) {
         return refuse_frame(Refusal::Fresh);
     }
     if expected.len() != 32 {
@@ -287,11 +296,13 @@ fn frame_turn(
     requires { ⌜ Listing h entry ⌝ }
     ensures { λ r. ⌜ TakesFrame r h entry (now (body .entry)) (now (fresh .entry)) (now (expected .entry)) verdict ⌝ }
 {
+    let w = record::width_of(h);
+    let n = h.settings.count as usize;
     match entry {
         Entry::Unsound => refuse_frame(Refusal::Unsound),
         Entry::Unusable => refuse_frame(Refusal::Address),
-        Entry::Absent => admit_frame(h, Found::Nothing, body, fresh, expected, verdict),
-        Entry::At(k) => admit_frame(h, Found::At(k), body, fresh, expected, verdict),
+        Entry::Absent => admit_frame(h, w, n, Found::Nothing, body, fresh, expected, verdict),
+        Entry::At(k) => admit_frame(h, w, n, Found::At(k), body, fresh, expected, verdict),
     }
 }
 
@@ -307,26 +318,29 @@ fn token_of(expected: &[u8]) -> [u8; 32]
 
 // The rule for a frame, in a slot.
 fn frame_at(t: &mut [u8], k: usize, h: Header, g: Given, v: View, body: &[u8], fresh: &[u8]) -> Said
-    requires { ⌜ Held (now t) h (At k) × (Stocks h (now fresh) × (Clocked (g .clock) h × (v .toklen ≤ 256))) ⌝ }
-    ensures { λ x. ⌜ DoesAt x (now (t .exit)) (now (t .entry)) k (onFrame (terms g (groupsOf h)) (call g (now (fresh .entry))) (slot (decodeTable (now (t .entry))) k) (messageOf (now (body .entry)) v)) ⌝ }
+    requires { ⌜ Held (now t) h (At k) × (Stocks h (now fresh) × (Clocked (g .clock) h × Fitting h (now body) v)) ⌝ }
+    ensures { λ x. ⌜ DoesAt x (now (t .exit)) (now (t .entry)) k (onFrame (terms g (groupsOf h)) (call g (freshIn h (now (fresh .entry)))) (slot (decodeTable (now (t .entry))) k) (messageOf (now (body .entry)) v)) ⌝ }
 {
     let list = h.settings.groups;
     let n = h.settings.count as usize;
-    let a = HEADER + RECORD * k;
-    let e = a + RECORD;
-    machine::on_frame(&mut t[a..e], g, v, body, &list[..n], fresh)
+    let w = record::width_of(h);
+    let a = record::record_at(w, k);
+    let e = a + record::record_size(w);
+    machine::on_frame(&mut t[a..e], w, g, v, body, &list[..n], fresh)
 }
 
 // No slot is free for a new peer: the rule works on a free record outside the table.
 fn hear_outside(h: Header, g: Given, v: View, body: &[u8], fresh: &[u8]) -> Answer
-    requires { ⌜ Stocks h (now fresh) × (Clocked (g .clock) h × (v .toklen ≤ 256)) ⌝ }
-    ensures { λ r. ⌜ r ≡ answersOutside (onFrame (terms g (groupsOf h)) (call g (now (fresh .entry))) noPeer (messageOf (now (body .entry)) v)) (g .address) ⌝ }
+    requires { ⌜ Stocks h (now fresh) × (Clocked (g .clock) h × Fitting h (now body) v) ⌝ }
+    ensures { λ r. ⌜ r ≡ answersOutside (onFrame (terms g (groupsOf h)) (call g (freshIn h (now (fresh .entry)))) noPeer (messageOf (now (body .entry)) v)) (g .address) ⌝ }
 {
     let list = h.settings.groups;
     let n = h.settings.count as usize;
     let address = g.address;
-    let mut s = [0u8; RECORD];
-    let said = machine::on_frame(&mut s[..], g, v, body, &list[..n], fresh);
+    let w = record::width_of(h);
+    let size = record::record_size(w);
+    let mut s = [0u8; MOST];
+    let said = machine::on_frame(&mut s[..size], w, g, v, body, &list[..n], fresh);
     if said.refused {
         return answers::refuse_with(Refusal::Full);
     }
@@ -335,13 +349,14 @@ fn hear_outside(h: Header, g: Given, v: View, body: &[u8], fresh: &[u8]) -> Answ
 
 // A frame that causes 2 to 7 do not refuse. Cause 9.
 fn hear(t: &mut [u8], h: Header, f: Found, g: Given, v: View, body: &[u8], fresh: &[u8]) -> Answer
-    requires { ⌜ Held (now t) h f × (Stocks h (now fresh) × (Brought g h × (v .toklen ≤ 256))) ⌝ }
-    ensures { λ r. ⌜ Leaves r (now (t .exit)) (finishes (now (t .entry)) f (onFrame (termsOf (decodeTable (now (t .entry))) f) (call g (now (fresh .entry))) (lookBy (decodeTable (now (t .entry))) f) (messageOf (now (body .entry)) v)) (g .address)) ⌝ }
+    requires { ⌜ Held (now t) h f × (Stocks h (now fresh) × (Brought g h × Fitting h (now body) v)) ⌝ }
+    ensures { λ r. ⌜ Leaves r (now (t .exit)) (finishes (now (t .entry)) f (onFrame (termsOf (decodeTable (now (t .entry))) f) (call g (freshIn h (now (fresh .entry)))) (lookBy (decodeTable (now (t .entry))) f) (messageOf (now (body .entry)) v)) (g .address)) ⌝ }
 {
     let n = h.geometry.slots as usize;
-    match answers::seat_of(t, n, f) {
+    let w = record::width_of(h);
+    match answers::seat_of(t, w, n, f) {
         Found::At(k) => {
-            let was = table::standing_of(t, k);
+            let was = table::standing_of(t, w, k);
             let said = frame_at(t, k, h, g, v, body, fresh);
             let address = g.address;
             answers::finish_at(t, k, h, was, said, address)
@@ -383,22 +398,22 @@ pub fn receive(
 
 // ---- Clock
 
-fn is_expired_at(t: &[u8], k: usize, time: u32) -> bool
-    requires { ⌜ 32 + size * k + size ≤ length (now t) ⌝ }
+fn is_expired_at(t: &[u8], w: usize, k: usize, time: u32) -> bool
+    requires { ⌜ Reached (now t) w k ⌝ }
     ensures { λ r. ⌜ r ≡ expired (slot (decodeTable (now (t .entry))) k) time ⌝ }
 {
-    let a = HEADER + RECORD * k;
-    let e = a + RECORD;
-    deadlines::is_expired(&t[a..e], time)
+    let a = record::record_at(w, k);
+    let e = a + record::record_size(w);
+    deadlines::is_expired(&t[a..e], w, time)
 }
 
-fn due_below(t: &[u8], n: usize, time: u32) -> Found
-    requires { ⌜ 32 + size * n ≤ length (now t) ⌝ }
+fn due_below(t: &[u8], w: usize, n: usize, time: u32) -> Found
+    requires { ⌜ Reaches (now t) w n ⌝ }
     ensures { λ r. ⌜ r ≡ firstBelow (λ k. expired (slot (decodeTable (now (t .entry))) k) time) n ⌝ }
 {
     let mut i = 0;
     while i < n {
-        if is_expired_at(t, i, time) {
+        if is_expired_at(t, w, i, time) {
             return Found::At(i);
         }
         i += 1;
@@ -407,11 +422,11 @@ fn due_below(t: &[u8], n: usize, time: u32) -> Found
 }
 
 // The due record with the lowest slot number.
-fn due_slot(t: &[u8], n: usize, time: u32) -> Found
-    requires { ⌜ Sized (now t) n ⌝ }
+fn due_slot(t: &[u8], w: usize, n: usize, time: u32) -> Found
+    requires { ⌜ Sized (now t) w n ⌝ }
     ensures { λ r. ⌜ r ≡ dueSlot (decodeTable (now (t .entry))) time ⌝ }
 {
-    due_below(t, n, time)
+    due_below(t, w, n, time)
 }
 
 // The rule for a due record, in its slot.
@@ -421,9 +436,10 @@ fn expire_at(t: &mut [u8], k: usize, h: Header, g: Given) -> Said
 {
     let list = h.settings.groups;
     let n = h.settings.count as usize;
-    let a = HEADER + RECORD * k;
-    let e = a + RECORD;
-    machine::on_clock(&mut t[a..e], g, &list[..n])
+    let w = record::width_of(h);
+    let a = record::record_at(w, k);
+    let e = a + record::record_size(w);
+    machine::on_clock(&mut t[a..e], w, g, &list[..n])
 }
 
 // The due record is served.
@@ -431,8 +447,9 @@ fn serve(t: &mut [u8], k: usize, h: Header, time: u32) -> Answer
     requires { ⌜ Held (now t) h (At k) ⌝ }
     ensures { λ r. ⌜ Leaves r (now (t .exit)) (finishes (now (t .entry)) (At k) (clockStep (decodeTable (now (t .entry))) k time) (slot (decodeTable (now (t .entry))) k .address)) ⌝ }
 {
-    let address = table::address_at(t, k);
-    let was = table::standing_of(t, k);
+    let w = record::width_of(h);
+    let address = table::address_at(t, w, k);
+    let was = table::standing_of(t, w, k);
     let none = [0u8; 32];
     let g = given_of(h, address, time, none, false);
     let said = expire_at(t, k, h, g);
@@ -450,7 +467,8 @@ pub fn expire(t: &mut [u8], time: u32) -> Answer
     }
     let h = c.header;
     let n = h.geometry.slots as usize;
-    match due_slot(t, n, time) {
+    let w = record::width_of(h);
+    match due_slot(t, w, n, time) {
         Found::Nothing => answers::none_due(),
         Found::At(k) => serve(t, k, h, time),
     }

@@ -9,10 +9,12 @@ use borrow.Author.Tests.{not-true}
 use Rattle.record.specs.declared.Header.{Header}
 use Rattle.record.specs.declared.Peer.{Peer}
 use Rattle.rules.specs.Book.{due, _isnt_}
-use Rattle.table.specs.Table.{size, decodeTable, slots, slot, sound, entry, Looked}
+use Rattle.groups.specs.Groups.{width}
+use Rattle.record.specs.Layout.{widthIn, recordAt}
+use Rattle.table.specs.Table.{widthOf, decodeTable, slots, slot, sound, entry, Looked}
 use Rattle.table.specs.declared.Entry.{Entry}
 use Rattle.table.specs.declared.Entry.the-variants as entry-is
-use Rattle.table.proofs.Laws.{looked-sound, looked-sized, entry-ready}
+use Rattle.table.proofs.Laws.{looked-sound, slots-law, looked-header, entry-at, entry-ready, width-told, record-bound}
 use Rattle.answers.specs.declared.Refusal.the-variants as why
 use Rattle.lookups.specs.declared.Asked.the-variants as asked
 use Rattle.lookups.specs.Lookups.{noDeadline, timeLeft, leftIf, lesser, peerLeft, leastBelow, nextDeadline, asksDeadline, offsetBy, asksOffset}
@@ -54,15 +56,15 @@ pub asks-least : (t : List ℕ) (time : ℕ) (b : Bool) (h : Header) → Looked 
 unfolding asksDeadline nextDeadline
 asks-least t time b h L q left e =
     let z : sound t ≡ true = looked-sound t b h L q in
-    let n : h .geometry .slots ≡ slots (decodeTable t) = looked-sized t b h L q .number in
+    let n : h .geometry .slots ≡ slots (decodeTable t) = slots-law t h z (looked-header t b h L q) .0 in
     rw z (ap asked.Number (e ∙ ap (leastBelow (λ k. peerLeft (slot (decodeTable t) k) time)) n))
 
 -- ---- where a record lies
 
 module _ (t a : List ℕ) (x : Entry) (e : x ≡ entry t a) where
-  pub offset-of : (y : Entry) → x ≡ y → offsetBy y ≡ asksOffset t a
+  pub offset-of : (y : Entry) → x ≡ y → offsetBy y (widthOf t) ≡ asksOffset t a
   unfolding asksOffset
-  offset-of y q = ap offsetBy (sym q ∙ e)
+  offset-of y q = ap (λ (z : Entry). offsetBy z (widthOf t)) (sym q ∙ e)
 
   pub offset-refused : x ≡ entry-is.Unsound → asked.Refused why.Unsound ≡ asksOffset t a
   unfolding offsetBy
@@ -76,10 +78,12 @@ module _ (t a : List ℕ) (x : Entry) (e : x ≡ entry t a) where
   unfolding offsetBy
   offset-absent q = offset-of entry-is.Absent q
 
-  module _ (k : ℕ) (q : x ≡ entry-is.At k) where
-    pub offset-at : asked.Number (32 + size * k) ≡ asksOffset t a
+  module _ (k : ℕ) (q : x ≡ entry-is.At k) (h : Header) (w : ℕ) (eh : sound t ≡ true → h ≡ decodeTable t .header) (ew : w ≡ widthIn h) (m : w ≤ width) where
+    pub offset-at : (n : ℕ) → n ≡ recordAt w k → asked.Number n ≡ asksOffset t a
     unfolding offsetBy
-    offset-at = offset-of (entry-is.At k) q
+    offset-at n en =
+        let z : w ≡ widthOf t = width-told t h w (eh (entry-at t a k (sym e ∙ q) .0)) ew in
+        ap asked.Number (en ∙ ap (λ (W : ℕ). recordAt W k) z) ∙ offset-of (entry-is.At k) q
 
-    pub slot-small : k < 64
-    slot-small = let r = entry-ready t a k (sym e ∙ q) in omega (arith, r .below, r .small)
+    pub offset-small : recordAt w k < 2 ^ 32
+    offset-small = let r = entry-ready t a k (sym e ∙ q) in record-bound w k m (omega (arith, r .below, r .small))

@@ -1,11 +1,12 @@
 -- THE LOOKUPS: what a host asks of a table that stays as it is. How long until the clock call is wanted next; where the record of an address lies.
-use Prim.Native.Nat.{ℕ, zero, suc, _+_, _-_, _*_, _%_, _^_}
+use Prim.Native.Nat.{ℕ, zero, suc, _+_, _-_, _%_, _^_}
 use mathlib.Core.Bool.{Bool}
 use mathlib.Core.List.{List}
 use lib.Dec.{ltb}
 use Rattle.octets.specs.Scan.{if_then_else_}
 use Rattle.record.specs.declared.Peer.{Peer}
-use Rattle.table.specs.Table.{Table, size, decodeTable, slots, slot, sound, entry}
+use Rattle.record.specs.Layout.{recordAt}
+use Rattle.table.specs.Table.{Table, widthOf, decodeTable, slots, slot, sound, entry}
 use Rattle.table.specs.declared.Entry.{Entry}
 use Rattle.table.specs.declared.Entry.the-variants.{Unsound, Unusable, Absent, At}
 use Rattle.rules.specs.Book.{due, hasRun, hasLink}
@@ -59,11 +60,11 @@ asksDeadline t time = if sound t then asked.Number (nextDeadline (decodeTable t)
 
 -- ---- where a record lies: after the header and the slots before its own; 0 where there is none. Causes 2, 3
 
-unfoldable pub offsetBy : Entry → Asked
-offsetBy Unsound = asked.Refused why.Unsound
-offsetBy Unusable = asked.Refused why.Address
-offsetBy Absent = asked.Number 0
-offsetBy (At k) = asked.Number (32 + size * k)
+unfoldable pub offsetBy : Entry → ℕ → Asked
+offsetBy Unsound W = asked.Refused why.Unsound
+offsetBy Unusable W = asked.Refused why.Address
+offsetBy Absent W = asked.Number 0
+offsetBy (At k) W = asked.Number (recordAt W k)
 
 unfoldable pub asksOffset : List ℕ → List ℕ → Asked
-asksOffset t address = offsetBy (entry t address)
+asksOffset t address = offsetBy (entry t address) (widthOf t)

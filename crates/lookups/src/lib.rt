@@ -1,14 +1,12 @@
 // The lookups: what a host asks of a table that stays as it is: how long until the next deadline, and where a record lies.
 ghost use mathlib.Core.Path.{_≡_};
-ghost use Prim.Native.Nat.{_+_, _*_, _≤_};
+ghost use Prim.Native.Nat.{_≤_};
 ghost use lib.ListN.{length};
 ghost use Rattle.groups.specs.Groups.{width};
 ghost use Rattle.record.specs.Layout.{decodePeer, recordSize};
-ghost use Rattle.table.specs.Table.{size, decodeTable, slot};
+ghost use Rattle.table.specs.Table.{decodeTable, slot, Reaches, Reached};
 ghost use Rattle.lookups.specs.Lookups.{timeLeft, leftIf, lesser, peerLeft, leastBelow, asksDeadline, asksOffset};
 use answers::Refusal;
-use record::HEADER;
-use record::RECORD;
 use table::Entry;
 
 // All ones: there is no deadline.
@@ -54,37 +52,37 @@ fn lesser_of(a: u32, b: u32) -> u32
 }
 
 // The time left until the earlier deadline of a record: t0 counts only with a run, t1 only with a link.
-fn peer_left(s: &[u8], time: u32) -> u32
-    requires { ⌜ length (now s) ≡ recordSize width ⌝ }
-    ensures { λ r. ⌜ r ≡ peerLeft (decodePeer width (now (s .entry))) time ⌝ }
+fn peer_left(s: &[u8], w: usize, time: u32) -> u32
+    requires { ⌜ (length (now s) ≡ recordSize w) × (w ≤ width) ⌝ }
+    ensures { λ r. ⌜ r ≡ peerLeft (decodePeer w (now (s .entry))) time ⌝ }
 {
-    let state = record::state_of(s);
-    let t0 = record::t0_of(s);
-    let finished = record::finished_of(s);
-    let t1 = record::t1_of(s);
+    let state = record::state_of(s, w);
+    let t0 = record::t0_of(s, w);
+    let finished = record::finished_of(s, w);
+    let t1 = record::t1_of(s, w);
     let run = left_if(state != 0, time, t0);
     let link = left_if(finished != 0, time, t1);
     lesser_of(run, link)
 }
 
-fn left_at(t: &[u8], k: usize, time: u32) -> u32
-    requires { ⌜ 32 + size * k + size ≤ length (now t) ⌝ }
+fn left_at(t: &[u8], w: usize, k: usize, time: u32) -> u32
+    requires { ⌜ Reached (now t) w k ⌝ }
     ensures { λ r. ⌜ r ≡ peerLeft (slot (decodeTable (now (t .entry))) k) time ⌝ }
 {
-    let a = HEADER + RECORD * k;
-    let e = a + RECORD;
-    peer_left(&t[a..e], time)
+    let a = record::record_at(w, k);
+    let e = a + record::record_size(w);
+    peer_left(&t[a..e], w, time)
 }
 
 // The least time left in the slots below n: one pass over the records.
-fn left_below(t: &[u8], n: usize, time: u32) -> u32
-    requires { ⌜ 32 + size * n ≤ length (now t) ⌝ }
+fn left_below(t: &[u8], w: usize, n: usize, time: u32) -> u32
+    requires { ⌜ Reaches (now t) w n ⌝ }
     ensures { λ r. ⌜ r ≡ leastBelow (λ k. peerLeft (slot (decodeTable (now (t .entry))) k) time) n ⌝ }
 {
     let mut least = NO_DEADLINE;
     let mut i = 0;
     while i < n {
-        let left = left_at(t, i, time);
+        let left = left_at(t, w, i, time);
         least = lesser_of(least, left);
         i += 1;
     }
@@ -102,7 +100,8 @@ pub fn next_deadline(t: &[u8], time: u32) -> Asked
     }
     let h = c.header;
     let n = h.geometry.slots as usize;
-    let left = left_below(t, n, time);
+    let w = record::width_of(h);
+    let left = left_below(t, w, n, time);
     Asked::Number(left)
 }
 
@@ -113,14 +112,16 @@ pub fn find(t: &[u8], address: [u8; 6]) -> Asked
     ensures { λ r. ⌜ r ≡ asksOffset (now (t .entry)) address ⌝ }
 {
     let e = table::enter(t, address);
+    let h = e.header;
     let entry = e.entry;
     match entry {
         Entry::Unsound => Asked::Refused(Refusal::Unsound),
         Entry::Unusable => Asked::Refused(Refusal::Address),
         Entry::Absent => Asked::Number(0),
         Entry::At(k) => {
-            let at = (HEADER + RECORD * k) as u32;
-            Asked::Number(at)
+            let w = record::width_of(h);
+            let at = record::record_at(w, k);
+            Asked::Number(at as u32)
         }
     }
 }

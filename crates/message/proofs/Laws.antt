@@ -7,11 +7,14 @@ use native.Mathlib.Nat.{zero-add}
 use lib.Dec.{lit≤}
 use lib.ListN.{length, replicate, length-take}
 use Rattle.octets.specs.Octets.{part, put}
-use Rattle.groups.proofs.Laws.{drop-zeros}
-use Rattle.frame.specs.Frame.{readBody, tokenOf}
+use mathlib.Core.Bool.{true}
+use Rattle.groups.specs.Groups.{width, listed, commitLength, Storable}
+use Rattle.groups.proofs.Laws.{drop-zeros, storable-short, storable-none}
+use Rattle.frame.specs.Frame.{readBody, tokenOf, commitOf}
 use Rattle.frame.specs.declared.Body.{Body}
 use Rattle.frame.specs.declared.Body.the-variants as body
 use Rattle.frame.proofs.Shapes.{headed, commit-shape, token-request-shape}
+use Rattle.frame.proofs.RoundTrip.{commit-length-read}
 use Rattle.message.specs.declared.View.{View}
 use Rattle.message.specs.View.{viewOf, view, storedToken, commitIn, message}
 
@@ -40,6 +43,21 @@ view-read gs frame x r e q = (q ∙ ap viewOf e, subst (λ (v : View). v .toklen
 pub view-short : (gs frame : List ℕ) → view gs frame .toklen ≤ 256
 unfolding view
 view-short gs frame = read-token gs frame (readBody gs frame) refl
+
+-- the commit of a frame is stored without loss with every width that has room for the listed groups
+pub message-storable : (W : ℕ) (gs frame : List ℕ) → W ≤ width → ((g : ℕ) → listed gs g ≡ true → commitLength g ≤ W) → Storable W (message gs frame .commit)
+unfolding message view commitIn
+message-storable W gs frame w room = go (readBody gs frame) refl
+  where
+    go : (x : Body) → readBody gs frame ≡ x → Storable W (commitIn frame (viewOf x .listed) (viewOf x .group) (viewOf x .toklen))
+    go (body.Commit g n) e = storable-short W (commitOf frame g n) w (omega (arith, commit-length-read gs frame g n e, room g (commit-shape gs frame g n e .supported)))
+    go (body.Unsupported g) e = storable-none W w
+    go (body.TokenRequest g n) e = storable-none W w
+    go (body.GroupRefusal g) e = storable-none W w
+    go (body.OtherCommit s) e = storable-none W w
+    go (body.Confirm n) e = storable-none W w
+    go (body.OtherConfirm s) e = storable-none W w
+    go body.Malformed e = storable-none W w
 
 -- a body that was read is at most 2,304 octets
 pub view-long : (gs frame : List ℕ) → (view gs frame .sequence ≡ 0 → ⊥) → length frame ≤ 2304

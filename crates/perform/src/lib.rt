@@ -2,7 +2,7 @@
 ghost use mathlib.Core.Path.{_≡_};
 ghost use Prim.Native.Nat.{_+_, _≤_, _<_};
 ghost use lib.ListN.{length, getD};
-ghost use Rattle.groups.specs.Groups.{width, freshAt, freshFor};
+ghost use Rattle.groups.specs.Groups.{width, stored, Storable, freshOf, freshAt, freshFor};
 ghost use Rattle.record.specs.Layout.{decodeRun, decodeLink, decodePeer, runSize, linkSize, recordSize};
 ghost use Rattle.rules.specs.declared.Frames.the-variants.{One};
 ghost use Rattle.rules.specs.Parts.{withToken, switched, heardAgain, withLink};
@@ -11,19 +11,15 @@ ghost use Rattle.rules.specs.Book.{perform as performed};
 ghost use Rattle.rules.specs.Said.{sayingFrames, Does};
 ghost use Rattle.message.specs.View.{messageOf};
 ghost use Rattle.rules.specs.Given.{terms, call, Paced, Whole, Stocked, Ready, Able};
-use groups::COMMIT;
 use groups::Choice;
 use message::View;
 use record::ADDRESS;
 use record::GROUP;
-use record::LINK;
 use record::LINK_SYNC;
 use record::RC;
-use record::RECORD;
 use record::REJECTED;
 use record::RUN;
 use record::RUN_OWN;
-use record::RUN_TOKEN;
 use record::STATE;
 use record::SYNC;
 use record::T0;
@@ -39,23 +35,24 @@ use rules::Said;
 // ---- Begin
 
 // The run of "Start", in its octets.
-fn start_run(r: &mut [u8], group: u16, own: [u8; COMMIT], clock: Clock)
-    requires { ⌜ Paced clock × (length (now r) ≡ runSize width) ⌝ }
-    ensures { λ _. ⌜ decodeRun width (now (r .exit)) ≡ setT0 clock (startedRun group own) ⌝ }
+fn start_run(r: &mut [u8], w: usize, group: u16, own: &[u8], clock: Clock)
+    requires { ⌜ Paced clock × ((length (now r) ≡ runSize w) × ((w ≤ width) × (length (now own) ≡ w))) ⌝ }
+    ensures { λ _. ⌜ decodeRun w (now (r .exit)) ≡ setT0 clock (startedRun group (stored (now (own .entry)))) ⌝ }
 {
     let at = deadlines::t0_at(clock, 0);
     record::clear(r);
     octets::put8(r, STATE, 1);
     octets::put16(r, GROUP, group);
     octets::put32(r, T0, at);
-    groups::put_commit(r, RUN_OWN, own);
+    octets::copy_in(r, RUN_OWN, own);
 }
 
-fn start(s: &mut [u8], address: [u8; 6], group: u16, own: [u8; COMMIT], clock: Clock) -> Said
-    requires { ⌜ Paced clock × (length (now s) ≡ recordSize width) ⌝ }
-    ensures { λ x. ⌜ Does x (now (s .exit)) (starting clock (decodePeer width (now (s .entry))) address group own) ⌝ }
+fn start(s: &mut [u8], w: usize, address: [u8; 6], group: u16, own: &[u8], clock: Clock) -> Said
+    requires { ⌜ Paced clock × ((length (now s) ≡ recordSize w) × ((w ≤ width) × (length (now own) ≡ w))) ⌝ }
+    ensures { λ x. ⌜ Does w x (now (s .exit)) (starting clock (decodePeer w (now (s .entry))) address group (stored (now (own .entry)))) ⌝ }
 {
-    start_run(&mut s[RUN..LINK], group, own, clock);
+    let at = record::link_at(w);
+    start_run(&mut s[RUN..at], w, group, own, clock);
     octets::put8(s, USED, 1);
     octets::put6(s, ADDRESS, address);
     let commit = acts::commit_frame(group);
@@ -68,13 +65,20 @@ fn start(s: &mut [u8], address: [u8; 6], group: u16, own: [u8; COMMIT], clock: C
 }
 
 // "Committed, first group, fresh commit, Sync 0, no token, send Commit, set t0."
-pub fn begin(s: &mut [u8], address: [u8; 6], groups: &[u16], fresh: &[u8], clock: Clock) -> Said
-    requires { ⌜ Paced clock × ((length (now s) ≡ recordSize width) × Stocked (now groups) (now fresh)) ⌝ }
-    ensures { λ x. ⌜ Does x (now (s .exit)) (starting clock (decodePeer width (now (s .entry))) address (getD (now (groups .entry)) 0 0) (freshAt (now (fresh .entry)) 0)) ⌝ }
+pub fn begin(
+    s: &mut [u8],
+    w: usize,
+    address: [u8; 6],
+    groups: &[u16],
+    fresh: &[u8],
+    clock: Clock,
+) -> Said
+    requires { ⌜ Paced clock × ((length (now s) ≡ recordSize w) × ((w ≤ width) × Stocked w (now groups) (now fresh))) ⌝ }
+    ensures { λ x. ⌜ Does w x (now (s .exit)) (starting clock (decodePeer w (now (s .entry))) address (getD (now (groups .entry)) 0 0) (freshAt (freshOf w (now (fresh .entry))) 0)) ⌝ }
 {
     let group = groups[0];
-    let own = groups::fresh_at(fresh, 0);
-    start(s, address, group, own, clock)
+    let own = groups::fresh_at(fresh, w, 0);
+    start(s, w, address, group, own, clock)
 }
 
 // ---- RefuseGroup, AskToken, NoSlot
@@ -98,23 +102,33 @@ fn ask_token(group: u16) -> Said
 // ---- AnswerCommit, ConfirmCommit
 
 // "fresh commit, Form, send Commit and Confirm".
-fn answer_commit(s: &mut [u8], g: Given, v: View, body: &[u8], groups: &[u16], fresh: &[u8]) -> Said
-    requires { ⌜ Paced (g .clock) × ((length (now s) ≡ recordSize width) × (Stocked (now groups) (now fresh) × (v .toklen ≤ 256))) ⌝ }
-    ensures { λ x. ⌜ Does x (now (s .exit)) (answeringCommit (g .clock) (decodePeer width (now (s .entry))) (g .address) (messageOf (now (body .entry)) v) (freshFor (now (groups .entry)) (now (fresh .entry)) (v .group))) ⌝ }
+fn answer_commit(
+    s: &mut [u8],
+    w: usize,
+    g: Given,
+    v: View,
+    body: &[u8],
+    groups: &[u16],
+    fresh: &[u8],
+) -> Said
+    requires { ⌜ Ready (g .clock) w (now s) (now groups) (now fresh) (messageOf (now body) v) ⌝ }
+    ensures { λ x. ⌜ Does w x (now (s .exit)) (answeringCommit (g .clock) (decodePeer w (now (s .entry))) (g .address) (messageOf (now (body .entry)) v) (freshFor (now (groups .entry)) (freshOf w (now (fresh .entry))) (v .group))) ⌝ }
 {
     let address = g.address;
     let clock = g.clock;
     let group = v.group;
-    let own = groups::fresh_for(groups, fresh, group);
+    let at = record::link_at(w);
+    let own = groups::fresh_for(groups, fresh, w, group);
     let theirs = message::commit(body, v);
     let commit = acts::commit_frame(group);
     let confirm = acts::confirm_frame(1);
+    acts::store_own(&mut s[RUN..at], w, own);
     acts::form_pair(
         s,
+        w,
         address,
         group,
-        own,
-        theirs,
+        &theirs[..w],
         Frames::Two(commit, confirm),
         group,
         clock,
@@ -122,21 +136,20 @@ fn answer_commit(s: &mut [u8], g: Given, v: View, body: &[u8], groups: &[u16], f
 }
 
 // "Form, send Confirm".
-fn confirm_commit(s: &mut [u8], g: Given, v: View, body: &[u8]) -> Said
-    requires { ⌜ Paced (g .clock) × ((length (now s) ≡ recordSize width) × (v .toklen ≤ 256)) ⌝ }
-    ensures { λ x. ⌜ Does x (now (s .exit)) (confirmingCommit (g .clock) (decodePeer width (now (s .entry))) (g .address) (messageOf (now (body .entry)) v)) ⌝ }
+fn confirm_commit(s: &mut [u8], w: usize, g: Given, v: View, body: &[u8]) -> Said
+    requires { ⌜ Paced (g .clock) × ((length (now s) ≡ recordSize w) × ((w ≤ width) × ((v .toklen ≤ 256) × Storable w (messageOf (now body) v .commit)))) ⌝ }
+    ensures { λ x. ⌜ Does w x (now (s .exit)) (confirmingCommit (g .clock) (decodePeer w (now (s .entry))) (g .address) (messageOf (now (body .entry)) v)) ⌝ }
 {
     let address = g.address;
     let clock = g.clock;
-    let own = record::own_of(s);
     let theirs = message::commit(body, v);
     let confirm = acts::confirm_frame(1);
     acts::form_pair(
         s,
+        w,
         address,
         v.group,
-        own,
-        theirs,
+        &theirs[..w],
         Frames::One(confirm),
         0,
         clock,
@@ -146,23 +159,24 @@ fn confirm_commit(s: &mut [u8], g: Given, v: View, body: &[u8]) -> Said
 // ---- SwitchGroup
 
 // The run of a change of group, in its octets.
-fn switch_run(r: &mut [u8], rejected: u8, group: u16, own: [u8; COMMIT], clock: Clock)
-    requires { ⌜ Paced clock × ((length (now r) ≡ runSize width) × (decodeRun width (now r) .sync ≤ clock .limit + 1)) ⌝ }
-    ensures { λ _. ⌜ decodeRun width (now (r .exit)) ≡ setT0 clock (switched (decodeRun width (now (r .entry))) rejected group own) ⌝ }
+fn switch_run(r: &mut [u8], w: usize, rejected: u8, group: u16, own: &[u8], clock: Clock)
+    requires { ⌜ Paced clock × ((length (now r) ≡ runSize w) × ((length (now own) ≡ w) × (decodeRun w (now r) .sync ≤ clock .limit + 1))) ⌝ }
+    ensures { λ _. ⌜ decodeRun w (now (r .exit)) ≡ setT0 clock (switched (decodeRun w (now (r .entry))) rejected group (stored (now (own .entry)))) ⌝ }
 {
     let sync = octets::get8(r, SYNC);
     let at = deadlines::t0_at(clock, sync);
     octets::put8(r, REJECTED, rejected);
     octets::put16(r, GROUP, group);
     octets::put32(r, T0, at);
-    groups::put_commit(r, RUN_OWN, own);
+    octets::copy_in(r, RUN_OWN, own);
 }
 
-fn switch_to(s: &mut [u8], rejected: u8, group: u16, own: [u8; COMMIT], clock: Clock) -> Said
-    requires { ⌜ Whole clock (now s) ⌝ }
-    ensures { λ x. ⌜ Does x (now (s .exit)) (sending clock (decodePeer width (now (s .entry))) (switched (decodePeer width (now (s .entry)) .run) rejected group own) (One (commitFrame group)) group) ⌝ }
+fn switch_to(s: &mut [u8], w: usize, rejected: u8, group: u16, own: &[u8], clock: Clock) -> Said
+    requires { ⌜ Whole clock w (now s) × (length (now own) ≡ w) ⌝ }
+    ensures { λ x. ⌜ Does w x (now (s .exit)) (sending clock (decodePeer w (now (s .entry))) (switched (decodePeer w (now (s .entry)) .run) rejected group (stored (now (own .entry)))) (One (commitFrame group)) group) ⌝ }
 {
-    switch_run(&mut s[RUN..LINK], rejected, group, own, clock);
+    let at = record::link_at(w);
+    switch_run(&mut s[RUN..at], w, rejected, group, own, clock);
     let commit = acts::commit_frame(group);
     Said {
         event: Event::None,
@@ -173,133 +187,138 @@ fn switch_to(s: &mut [u8], rejected: u8, group: u16, own: [u8; COMMIT], clock: C
 }
 
 // "mark it rejected and take the first group in its own list that is not marked as rejected, with a fresh commit; none, give up."
-fn switch_group(s: &mut [u8], groups: &[u16], fresh: &[u8], clock: Clock) -> Said
-    requires { ⌜ Whole clock (now s) × Stocked (now groups) (now fresh) ⌝ }
-    ensures { λ x. ⌜ Does x (now (s .exit)) (switching clock (decodePeer width (now (s .entry))) (now (groups .entry)) (now (fresh .entry))) ⌝ }
+fn switch_group(s: &mut [u8], w: usize, groups: &[u16], fresh: &[u8], clock: Clock) -> Said
+    requires { ⌜ Whole clock w (now s) × Stocked w (now groups) (now fresh) ⌝ }
+    ensures { λ x. ⌜ Does w x (now (s .exit)) (switching clock (decodePeer w (now (s .entry))) (now (groups .entry)) (freshOf w (now (fresh .entry)))) ⌝ }
 {
-    let ours = record::group_of(s);
-    let before = record::rejected_of(s);
+    let ours = record::group_of(s, w);
+    let before = record::rejected_of(s, w);
     let i = groups::index_of(groups, ours);
     let rejected = groups::marked_with(before, i);
     match groups::first_left(groups, rejected) {
         Choice::Group(k, group) => {
-            let own = groups::fresh_at(fresh, k);
-            switch_to(s, rejected, group, own, clock)
+            let own = groups::fresh_at(fresh, w, k);
+            switch_to(s, w, rejected, group, own, clock)
         }
-        Choice::None => acts::abandon(s),
+        Choice::None => acts::abandon(s, w),
     }
 }
 
 // ---- RepeatCommit, RepeatRefusal, ConfirmAgain, ResendBoth
 
 // "Repeat the Commit".
-pub fn repeat_commit(s: &mut [u8], clock: Clock) -> Said
-    requires { ⌜ Paced clock × (length (now s) ≡ recordSize width) ⌝ }
-    ensures { λ x. ⌜ Does x (now (s .exit)) (repeatingCommit clock (decodePeer width (now (s .entry)))) ⌝ }
+pub fn repeat_commit(s: &mut [u8], w: usize, clock: Clock) -> Said
+    requires { ⌜ Paced clock × ((length (now s) ≡ recordSize w) × (w ≤ width)) ⌝ }
+    ensures { λ x. ⌜ Does w x (now (s .exit)) (repeatingCommit clock (decodePeer w (now (s .entry)))) ⌝ }
 {
-    let group = record::group_of(s);
-    let sc = record::sc_of(s);
+    let group = record::group_of(s, w);
+    let sc = record::sc_of(s, w);
     let commit = acts::commit_frame(group);
-    acts::retransmit(s, sc, Frames::One(commit), clock)
+    acts::retransmit(s, w, sc, Frames::One(commit), clock)
 }
 
 // "Repeat sending 77".
-fn repeat_refusal(s: &mut [u8], group: u16, clock: Clock) -> Said
-    requires { ⌜ Paced clock × (length (now s) ≡ recordSize width) ⌝ }
-    ensures { λ x. ⌜ Does x (now (s .exit)) (repeatingRefusal clock (decodePeer width (now (s .entry))) group) ⌝ }
+fn repeat_refusal(s: &mut [u8], w: usize, group: u16, clock: Clock) -> Said
+    requires { ⌜ Paced clock × ((length (now s) ≡ recordSize w) × (w ≤ width)) ⌝ }
+    ensures { λ x. ⌜ Does w x (now (s .exit)) (repeatingRefusal clock (decodePeer w (now (s .entry))) group) ⌝ }
 {
-    let sc = record::sc_of(s);
+    let sc = record::sc_of(s, w);
     let refusal = acts::group_refusal_frame(group);
-    acts::retransmit(s, sc, Frames::One(refusal), clock)
+    acts::retransmit(s, w, sc, Frames::One(refusal), clock)
 }
 
 // "Repeat with Sc + 1 and a new Confirm".
-pub fn confirm_again(s: &mut [u8], clock: Clock) -> Said
-    requires { ⌜ Whole clock (now s) ⌝ }
-    ensures { λ x. ⌜ Does x (now (s .exit)) (confirmingAgain clock (decodePeer width (now (s .entry)))) ⌝ }
+pub fn confirm_again(s: &mut [u8], w: usize, clock: Clock) -> Said
+    requires { ⌜ Whole clock w (now s) ⌝ }
+    ensures { λ x. ⌜ Does w x (now (s .exit)) (confirmingAgain clock (decodePeer w (now (s .entry)))) ⌝ }
 {
-    let sc = record::sc_of(s) + 1;
+    let sc = record::sc_of(s, w) + 1;
     let confirm = acts::confirm_frame(sc);
-    acts::retransmit(s, sc, Frames::One(confirm), clock)
+    acts::retransmit(s, w, sc, Frames::One(confirm), clock)
 }
 
 // "Sync + 1, Sc + 1, send Commit and Confirm, set t0".
-fn resend_both(s: &mut [u8], clock: Clock) -> Said
-    requires { ⌜ Whole clock (now s) × (decodePeer width (now s) .run .sync ≤ clock .limit) ⌝ }
-    ensures { λ x. ⌜ Does x (now (s .exit)) (resendingBoth clock (decodePeer width (now (s .entry)))) ⌝ }
+fn resend_both(s: &mut [u8], w: usize, clock: Clock) -> Said
+    requires { ⌜ Whole clock w (now s) × (decodePeer w (now s) .run .sync ≤ clock .limit) ⌝ }
+    ensures { λ x. ⌜ Does w x (now (s .exit)) (resendingBoth clock (decodePeer w (now (s .entry)))) ⌝ }
 {
-    let group = record::group_of(s);
-    let sync = record::sync_of(s) + 1;
-    let sc = record::sc_of(s) + 1;
+    let group = record::group_of(s, w);
+    let sync = record::sync_of(s, w) + 1;
+    let sc = record::sc_of(s, w) + 1;
     let commit = acts::commit_frame(group);
     let confirm = acts::confirm_frame(sc);
-    acts::send_counted(s, sync, sc, Frames::Two(commit, confirm), clock)
+    acts::send_counted(s, w, sync, sc, Frames::Two(commit, confirm), clock)
 }
 
 // ---- ReplyToken
 
 // The run with another token, in its octets.
-fn store_token(r: &mut [u8], toklen: u16, token: [u8; 256])
-    requires { ⌜ length (now r) ≡ runSize width ⌝ }
-    ensures { λ _. ⌜ decodeRun width (now (r .exit)) ≡ withToken (decodeRun width (now (r .entry))) toklen token ⌝ }
+fn store_token(r: &mut [u8], w: usize, toklen: u16, token: [u8; 256])
+    requires { ⌜ (length (now r) ≡ runSize w) × (w ≤ width) ⌝ }
+    ensures { λ _. ⌜ decodeRun w (now (r .exit)) ≡ withToken (decodeRun w (now (r .entry))) toklen token ⌝ }
 {
+    let at = record::run_token_at(w);
     octets::put16(r, TOKLEN, toklen);
-    octets::put256(r, RUN_TOKEN, token);
+    octets::put256(r, at, token);
 }
 
 // "store the token, send Commit with it", a Repeat: where that gives up, the run is cleared, and the token with it.
-fn reply_token(s: &mut [u8], v: View, body: &[u8], clock: Clock) -> Said
-    requires { ⌜ Paced clock × ((length (now s) ≡ recordSize width) × (v .toklen ≤ 256)) ⌝ }
-    ensures { λ x. ⌜ Does x (now (s .exit)) (replyingToken clock (decodePeer width (now (s .entry))) (messageOf (now (body .entry)) v)) ⌝ }
+fn reply_token(s: &mut [u8], w: usize, v: View, body: &[u8], clock: Clock) -> Said
+    requires { ⌜ Paced clock × ((length (now s) ≡ recordSize w) × ((w ≤ width) × (v .toklen ≤ 256))) ⌝ }
+    ensures { λ x. ⌜ Does w x (now (s .exit)) (replyingToken clock (decodePeer w (now (s .entry))) (messageOf (now (body .entry)) v)) ⌝ }
 {
     let token = message::token(body, v);
-    store_token(&mut s[RUN..LINK], v.toklen, token);
-    repeat_commit(s, clock)
+    let at = record::link_at(w);
+    store_token(&mut s[RUN..at], w, v.toklen, token);
+    repeat_commit(s, w, clock)
 }
 
 // ---- HearAgain, HearLast
 
 // The link with another Rc and Sync, in its octets.
-fn hear_link(l: &mut [u8], rc: u16, sync: u8)
-    requires { ⌜ length (now l) ≡ linkSize width ⌝ }
-    ensures { λ _. ⌜ decodeLink width (now (l .exit)) ≡ heardAgain (decodeLink width (now (l .entry))) rc sync ⌝ }
+fn hear_link(l: &mut [u8], w: usize, rc: u16, sync: u8)
+    requires { ⌜ length (now l) ≡ linkSize w ⌝ }
+    ensures { λ _. ⌜ decodeLink w (now (l .exit)) ≡ heardAgain (decodeLink w (now (l .entry))) rc sync ⌝ }
 {
     octets::put8(l, LINK_SYNC, sync);
     octets::put16(l, RC, rc);
 }
 
 // Rc is the counter; the link's Sync and the frames are what is given.
-fn hear(s: &mut [u8], rc: u16, sync: u8, frames: Frames) -> Said
-    requires { ⌜ length (now s) ≡ recordSize width ⌝ }
-    ensures { λ x. ⌜ Does x (now (s .exit)) (answering (withLink (decodePeer width (now (s .entry))) (heardAgain (decodePeer width (now (s .entry)) .link) rc sync)) frames) ⌝ }
+fn hear(s: &mut [u8], w: usize, rc: u16, sync: u8, frames: Frames) -> Said
+    requires { ⌜ (length (now s) ≡ recordSize w) × (w ≤ width) ⌝ }
+    ensures { λ x. ⌜ Does w x (now (s .exit)) (answering (withLink (decodePeer w (now (s .entry))) (heardAgain (decodePeer w (now (s .entry)) .link) rc sync)) frames) ⌝ }
 {
-    hear_link(&mut s[LINK..RECORD], rc, sync);
+    let at = record::link_at(w);
+    let end = record::record_size(w);
+    hear_link(&mut s[at..end], w, rc, sync);
     acts::say_frames(frames)
 }
 
 // "Rc is the counter", which is 65,535.
-fn hear_last(s: &mut [u8], counter: u16) -> Said
-    requires { ⌜ length (now s) ≡ recordSize width ⌝ }
-    ensures { λ x. ⌜ Does x (now (s .exit)) (hearingLast (decodePeer width (now (s .entry))) counter) ⌝ }
+fn hear_last(s: &mut [u8], w: usize, counter: u16) -> Said
+    requires { ⌜ (length (now s) ≡ recordSize w) × (w ≤ width) ⌝ }
+    ensures { λ x. ⌜ Does w x (now (s .exit)) (hearingLast (decodePeer w (now (s .entry))) counter) ⌝ }
 {
-    let sync = record::link_sync_of(s);
-    hear(s, counter, sync, Frames::None)
+    let sync = record::link_sync_of(s, w);
+    hear(s, w, counter, sync, Frames::None)
 }
 
 // "Rc is the counter, Sync + 1 and a Confirm with counter 65,535".
-fn hear_again(s: &mut [u8], counter: u16) -> Said
-    requires { ⌜ (length (now s) ≡ recordSize width) × (decodePeer width (now s) .link .sync < 255) ⌝ }
-    ensures { λ x. ⌜ Does x (now (s .exit)) (hearingAgain (decodePeer width (now (s .entry))) counter) ⌝ }
+fn hear_again(s: &mut [u8], w: usize, counter: u16) -> Said
+    requires { ⌜ (length (now s) ≡ recordSize w) × ((w ≤ width) × (decodePeer w (now s) .link .sync < 255)) ⌝ }
+    ensures { λ x. ⌜ Does w x (now (s .exit)) (hearingAgain (decodePeer w (now (s .entry))) counter) ⌝ }
 {
-    let sync = record::link_sync_of(s) + 1;
+    let sync = record::link_sync_of(s, w) + 1;
     let confirm = acts::confirm_frame(65535);
-    hear(s, counter, sync, Frames::One(confirm))
+    hear(s, w, counter, sync, Frames::One(confirm))
 }
 
 // ---- each act by its name
 
 pub fn perform(
     s: &mut [u8],
+    w: usize,
     g: Given,
     v: View,
     body: &[u8],
@@ -307,8 +326,8 @@ pub fn perform(
     fresh: &[u8],
     act: Act,
 ) -> Said
-    requires { ⌜ Ready (g .clock) (now s) (now groups) (now fresh) (messageOf (now body) v) × Able (g .clock) act (decodePeer width (now s)) ⌝ }
-    ensures { λ x. ⌜ Does x (now (s .exit)) (performed (terms g (now (groups .entry))) (call g (now (fresh .entry))) (decodePeer width (now (s .entry))) (messageOf (now (body .entry)) v) act) ⌝ }
+    requires { ⌜ Ready (g .clock) w (now s) (now groups) (now fresh) (messageOf (now body) v) × Able (g .clock) act (decodePeer w (now s)) ⌝ }
+    ensures { λ x. ⌜ Does w x (now (s .exit)) (performed (terms g (now (groups .entry))) (call g (freshOf w (now (fresh .entry)))) (decodePeer w (now (s .entry))) (messageOf (now (body .entry)) v) act) ⌝ }
 {
     let address = g.address;
     let clock = g.clock;
@@ -317,19 +336,19 @@ pub fn perform(
         Act::RefuseGroup => refuse_group(v.group),
         Act::AskToken => ask_token(v.group),
         Act::NoSlot => acts::say_refused(),
-        Act::AnswerCommit => answer_commit(s, g, v, body, groups, fresh),
-        Act::ConfirmCommit => confirm_commit(s, g, v, body),
-        Act::ReplyToken => reply_token(s, v, body, clock),
-        Act::SwitchGroup => switch_group(s, groups, fresh, clock),
-        Act::RepeatCommit => repeat_commit(s, clock),
-        Act::RepeatRefusal => repeat_refusal(s, v.group, clock),
-        Act::ResendBoth => resend_both(s, clock),
-        Act::ConfirmAgain => confirm_again(s, clock),
-        Act::GiveUp => acts::abandon(s),
-        Act::Accept => acts::accept(s, v.counter, clock.time),
-        Act::HearAgain => hear_again(s, v.counter),
-        Act::HearLast => hear_last(s, v.counter),
-        Act::EndLink => acts::end_link(s),
-        Act::Begin => begin(s, address, groups, fresh, clock),
+        Act::AnswerCommit => answer_commit(s, w, g, v, body, groups, fresh),
+        Act::ConfirmCommit => confirm_commit(s, w, g, v, body),
+        Act::ReplyToken => reply_token(s, w, v, body, clock),
+        Act::SwitchGroup => switch_group(s, w, groups, fresh, clock),
+        Act::RepeatCommit => repeat_commit(s, w, clock),
+        Act::RepeatRefusal => repeat_refusal(s, w, v.group, clock),
+        Act::ResendBoth => resend_both(s, w, clock),
+        Act::ConfirmAgain => confirm_again(s, w, clock),
+        Act::GiveUp => acts::abandon(s, w),
+        Act::Accept => acts::accept(s, w, v.counter, clock.time),
+        Act::HearAgain => hear_again(s, w, v.counter),
+        Act::HearLast => hear_last(s, w, v.counter),
+        Act::EndLink => acts::end_link(s, w),
+        Act::Begin => begin(s, w, address, groups, fresh, clock),
     }
 }

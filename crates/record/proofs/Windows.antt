@@ -1,7 +1,7 @@
 -- A record's octets: a number in its place, and what a store in one part of them leaves.
 use mathlib.Core.Path.{_≡_, refl, sym, ap, _∙_}
 use mathlib.Core.List.{List, [], _∷_}
-use Prim.Native.Nat.{ℕ, zero, suc, _+_, _≤_, _<_}
+use Prim.Native.Nat.{ℕ, zero, suc, _+_, _-_, _≤_, _<_}
 use native.Mathlib.Omega.{arith}
 use lib.Dec.{lit≤, lit<}
 use lib.ListN.{length, take, drop, getD, set, replicate, length-replicate, getD-replicate}
@@ -9,78 +9,101 @@ use native.Mathlib.Decide.{ℕ-discrete}
 use lib.Seq.{getD-set-same, getD-set-other, ext-getD}
 use borrow.Rule.Slice.PartMut.{putMid}
 use Rattle.octets.specs.Octets.{part, put, num, oct}
-use Rattle.octets.proofs.Laws.{part-part, part-put, part-put-before, part-put-after, length-oct, length-put, num-oct, mid-put}
-use Rattle.groups.specs.Groups.{width}
+use Rattle.octets.proofs.Laws.{length-part, part-part, part-put, part-put-before, part-put-after, length-oct, length-put, num-oct, mid-put}
+use Rattle.groups.specs.Groups.{width, stored}
 use Rattle.record.specs.Codec.{cut, total}
-use Rattle.record.specs.Layout.{runWidths, runOf, decodeRun, linkWidths, linkOf, decodeLink, peerWidths, peerOf, decodePeer, runSize, linkSize, recordSize, noRun, noLink, noPeer}
+use Rattle.record.specs.Layout.{runWidths, runOf, decodeRun, linkWidths, linkOf, decodeLink, peerWidths, peerOf, decodePeer, runSize, linkSize, recordSize, linkAt, noRun, noLink, noPeer}
 use Rattle.record.specs.declared.Run.{Run}
 use Rattle.record.specs.declared.Link.{Link}
 use Rattle.record.specs.declared.Peer.{Peer}
-use Rattle.record.proofs.Laws.{peer-at, shape-peer, dec-enc-run, dec-enc-link, dec-enc-peer, zero-run, zero-link, zero-peer, fit-no-run, fit-no-link, fit-no-peer}
+use Rattle.record.proofs.Laws.{peer-at, no-run-at, no-link-at, no-peer-at}
 
 -- ---- numbers
 
-run-number : (s : List ℕ) (at n : ℕ) (f : Run → ℕ) → ((r : List ℕ) → f (decodeRun width r) ≡ num (part r at n)) → at + n ≤ runSize width → f (decodePeer width s .run) ≡ num (part s (7 + at) n)
-run-number s at n f e h = ap (λ (p : Peer). f (p .run)) (peer-at width s) ∙ e _ ∙ ap num (part-part s 7 (runSize width) at n h)
+run-number : (W : ℕ) (s : List ℕ) (at n : ℕ) (f : Run → ℕ) → ((r : List ℕ) → f (decodeRun W r) ≡ num (part r at n)) → at + n ≤ runSize W → f (decodePeer W s .run) ≡ num (part s (7 + at) n)
+run-number W s at n f e h = ap (λ (p : Peer). f (p .run)) (peer-at W s) ∙ e _ ∙ ap num (part-part s 7 (runSize W) at n h)
 
-link-number : (s : List ℕ) (at n : ℕ) (f : Link → ℕ) → ((l : List ℕ) → f (decodeLink width l) ≡ num (part l at n)) → at + n ≤ linkSize width → f (decodePeer width s .link) ≡ num (part s (7 + runSize width + at) n)
-link-number s at n f e h = ap (λ (p : Peer). f (p .link)) (peer-at width s) ∙ e _ ∙ ap num (part-part s (7 + runSize width) (linkSize width) at n h)
+link-number : (W : ℕ) (s : List ℕ) (a at n : ℕ) (f : Link → ℕ) → ((l : List ℕ) → f (decodeLink W l) ≡ num (part l at n)) → at + n ≤ linkSize W → a ≡ linkAt W → f (decodePeer W s .link) ≡ num (part s (a + at) n)
+link-number W s a at n f e h q = ap (λ (p : Peer). f (p .link)) (peer-at W s) ∙ e _ ∙ ap num (part-part s (linkAt W) (linkSize W) at n h ∙ ap (λ (k : ℕ). part s (k + at) n) (sym q))
 
-module _ (s : List ℕ) where
-  pub state-law : decodePeer width s .run .state ≡ num (part s 7 1)
+module _ (W : ℕ) (s : List ℕ) where
+  pub state-law : decodePeer W s .run .state ≡ num (part s 7 1)
   unfolding decodeRun runOf runWidths cut
-  state-law = run-number s 0 1 (λ r. r .state) (λ r. refl) (lit≤ tt)
+  state-law = run-number W s 0 1 (λ r. r .state) (λ r. refl) (omega arith)
 
-  pub sync-law : decodePeer width s .run .sync ≡ num (part s 8 1)
+  pub sync-law : decodePeer W s .run .sync ≡ num (part s 8 1)
   unfolding decodeRun runOf runWidths cut
-  sync-law = run-number s 1 1 (λ r. r .sync) (λ r. refl) (lit≤ tt)
+  sync-law = run-number W s 1 1 (λ r. r .sync) (λ r. refl) (omega arith)
 
-  pub rejected-law : decodePeer width s .run .rejected ≡ num (part s 9 1)
+  pub rejected-law : decodePeer W s .run .rejected ≡ num (part s 9 1)
   unfolding decodeRun runOf runWidths cut
-  rejected-law = run-number s 2 1 (λ r. r .rejected) (λ r. refl) (lit≤ tt)
+  rejected-law = run-number W s 2 1 (λ r. r .rejected) (λ r. refl) (omega arith)
 
-  pub sc-law : decodePeer width s .run .sc ≡ num (part s 10 2)
+  pub sc-law : decodePeer W s .run .sc ≡ num (part s 10 2)
   unfolding decodeRun runOf runWidths cut
-  sc-law = run-number s 3 2 (λ r. r .sc) (λ r. refl) (lit≤ tt)
+  sc-law = run-number W s 3 2 (λ r. r .sc) (λ r. refl) (omega arith)
 
-  pub group-law : decodePeer width s .run .group ≡ num (part s 12 2)
+  pub group-law : decodePeer W s .run .group ≡ num (part s 12 2)
   unfolding decodeRun runOf runWidths cut
-  group-law = run-number s 5 2 (λ r. r .group) (λ r. refl) (lit≤ tt)
+  group-law = run-number W s 5 2 (λ r. r .group) (λ r. refl) (omega arith)
 
-  pub t0-law : decodePeer width s .run .t0 ≡ num (part s 16 4)
+  pub t0-law : decodePeer W s .run .t0 ≡ num (part s 16 4)
   unfolding decodeRun runOf runWidths cut
-  t0-law = run-number s 9 4 (λ r. r .t0) (λ r. refl) (lit≤ tt)
+  t0-law = run-number W s 9 4 (λ r. r .t0) (λ r. refl) (omega arith)
 
-  pub finished-law : decodePeer width s .link .finished ≡ num (part s 564 1)
+  pub toklen-law : decodePeer W s .run .toklen ≡ num (part s 14 2)
+  unfolding decodeRun runOf runWidths cut
+  toklen-law = run-number W s 7 2 (λ r. r .toklen) (λ r. refl) (omega arith)
+
+  pub finished-law : (a : ℕ) → a ≡ linkAt W → decodePeer W s .link .finished ≡ num (part s (a + 0) 1)
   unfolding decodeLink linkOf linkWidths cut
-  finished-law = link-number s 0 1 (λ l. l .finished) (λ l. refl) (lit≤ tt)
+  finished-law a e = link-number W s a 0 1 (λ l. l .finished) (λ l. refl) (omega arith) e
 
-  pub link-sync-law : decodePeer width s .link .sync ≡ num (part s 566 1)
+  pub link-sync-law : (a : ℕ) → a ≡ linkAt W → decodePeer W s .link .sync ≡ num (part s (a + 2) 1)
   unfolding decodeLink linkOf linkWidths cut
-  link-sync-law = link-number s 2 1 (λ l. l .sync) (λ l. refl) (lit≤ tt)
+  link-sync-law a e = link-number W s a 2 1 (λ l. l .sync) (λ l. refl) (omega arith) e
 
-  pub link-group-law : decodePeer width s .link .group ≡ num (part s 568 2)
+  pub link-group-law : (a : ℕ) → a ≡ linkAt W → decodePeer W s .link .group ≡ num (part s (a + 4) 2)
   unfolding decodeLink linkOf linkWidths cut
-  link-group-law = link-number s 4 2 (λ l. l .group) (λ l. refl) (lit≤ tt)
+  link-group-law a e = link-number W s a 4 2 (λ l. l .group) (λ l. refl) (omega arith) e
 
-  pub rc-law : decodePeer width s .link .rc ≡ num (part s 570 2)
+  pub rc-law : (a : ℕ) → a ≡ linkAt W → decodePeer W s .link .rc ≡ num (part s (a + 6) 2)
   unfolding decodeLink linkOf linkWidths cut
-  rc-law = link-number s 6 2 (λ l. l .rc) (λ l. refl) (lit≤ tt)
+  rc-law a e = link-number W s a 6 2 (λ l. l .rc) (λ l. refl) (omega arith) e
 
-  pub t1-law : decodePeer width s .link .t1 ≡ num (part s 572 4)
+  pub t1-law : (a : ℕ) → a ≡ linkAt W → decodePeer W s .link .t1 ≡ num (part s (a + 8) 4)
   unfolding decodeLink linkOf linkWidths cut
-  t1-law = link-number s 8 4 (λ l. l .t1) (λ l. refl) (lit≤ tt)
+  t1-law a e = link-number W s a 8 4 (λ l. l .t1) (λ l. refl) (omega arith) e
 
-  pub address-law : decodePeer width s .address ≡ part s 1 6
-  address-law = ap (λ (p : Peer). p .address) (peer-at width s)
+  pub address-law : decodePeer W s .address ≡ part s 1 6
+  address-law = ap (λ (p : Peer). p .address) (peer-at W s)
 
-  pub own-law : decodePeer width s .run .own ≡ part s 20 width
+  pub own-law : decodePeer W s .run .own ≡ stored (part s 20 W)
   unfolding decodeRun runOf runWidths cut
-  own-law = ap (λ (p : Peer). p .run .own) (peer-at width s) ∙ part-part s 7 (runSize width) 13 width (lit≤ tt)
+  own-law = ap (λ (p : Peer). p .run .own) (peer-at W s) ∙ ap stored (part-part s 7 (runSize W) 13 W (omega arith))
 
-  pub link-peer-law : decodePeer width s .link .peer ≡ part s 720 width
+  pub token-law : decodePeer W s .run .token ≡ part s (7 + (13 + W + W)) 256
+  unfolding decodeRun runOf runWidths cut
+  token-law = ap (λ (p : Peer). p .run .token) (peer-at W s) ∙ part-part s 7 (runSize W) (13 + W + W) 256 (omega arith)
+
+  pub link-peer-law : decodePeer W s .link .peer ≡ stored (part s (linkAt W + (12 + W)) W)
   unfolding decodeLink linkOf linkWidths cut
-  link-peer-law = ap (λ (p : Peer). p .link .peer) (peer-at width s) ∙ part-part s (7 + runSize width) (linkSize width) (12 + width) width (lit≤ tt)
+  link-peer-law = ap (λ (p : Peer). p .link .peer) (peer-at W s) ∙ ap stored (part-part s (linkAt W) (linkSize W) (12 + W) W (omega arith))
+
+-- ---- commits and the token where they lie
+
+module _ (W : ℕ) (s : List ℕ) (a e : ℕ) (h : length s ≡ recordSize W) where
+  pub own-part : a ≡ 20 → e ≡ a + W → (length (take (e - a) (drop a s)) ≡ W) × (stored (take (e - a) (drop a s)) ≡ decodePeer W s .run .own)
+  unfolding part
+  own-part p q = let n : e - a ≡ W = omega arith in rw (n, p) (length-part s 20 W (omega arith), sym (own-law W s))
+
+  pub token-part : a ≡ 7 + (13 + W + W) → e ≡ a + 256 → take (e - a) (drop a s) ≡ decodePeer W s .run .token
+  unfolding part
+  token-part p q = let n : e - a ≡ 256 = omega arith in rw (n, p) (sym (token-law W s))
+
+  pub link-peer-part : a ≡ linkAt W + (12 + W) → e ≡ a + W → (length (take (e - a) (drop a s)) ≡ W) × (stored (take (e - a) (drop a s)) ≡ decodePeer W s .link .peer)
+  unfolding part
+  link-peer-part p q = let n : e - a ≡ W = omega arith in rw (n, p) (length-part s (linkAt W + (12 + W)) W (omega arith), sym (link-peer-law W s))
 
 -- ---- a field of many replaced
 
@@ -123,73 +146,73 @@ laid-put {ws} {s} {fs} {n} t i at v L h l e k q =
 
 -- ---- a part of a record replaced
 
-module _ (s : List ℕ) where
-  used-of : (v : List ℕ) → peerOf width (set (cut 0 (peerWidths width) s) 0 v) ≡ record { used = num v; address = decodePeer width s .address; run = decodePeer width s .run; link = decodePeer width s .link }
+module _ (W : ℕ) (s : List ℕ) where
+  used-of : (v : List ℕ) → peerOf W (set (cut 0 (peerWidths W) s) 0 v) ≡ record { used = num v; address = decodePeer W s .address; run = decodePeer W s .run; link = decodePeer W s .link }
   unfolding decodePeer peerOf peerWidths runWidths linkWidths total cut
   used-of v = refl
 
-  address-of : (v : List ℕ) → peerOf width (set (cut 0 (peerWidths width) s) 1 v) ≡ record { used = decodePeer width s .used; address = v; run = decodePeer width s .run; link = decodePeer width s .link }
+  address-of : (v : List ℕ) → peerOf W (set (cut 0 (peerWidths W) s) 1 v) ≡ record { used = decodePeer W s .used; address = v; run = decodePeer W s .run; link = decodePeer W s .link }
   unfolding decodePeer peerOf peerWidths runWidths linkWidths total cut
   address-of v = refl
 
-  run-of : (v : List ℕ) → peerOf width (set (cut 0 (peerWidths width) s) 2 v) ≡ record { used = decodePeer width s .used; address = decodePeer width s .address; run = decodeRun width v; link = decodePeer width s .link }
+  run-of : (v : List ℕ) → peerOf W (set (cut 0 (peerWidths W) s) 2 v) ≡ record { used = decodePeer W s .used; address = decodePeer W s .address; run = decodeRun W v; link = decodePeer W s .link }
   unfolding decodePeer peerOf peerWidths runWidths linkWidths total cut
   run-of v = refl
 
-  link-of : (v : List ℕ) → peerOf width (set (cut 0 (peerWidths width) s) 3 v) ≡ record { used = decodePeer width s .used; address = decodePeer width s .address; run = decodePeer width s .run; link = decodeLink width v }
+  link-of : (v : List ℕ) → peerOf W (set (cut 0 (peerWidths W) s) 3 v) ≡ record { used = decodePeer W s .used; address = decodePeer W s .address; run = decodePeer W s .run; link = decodeLink W v }
   unfolding decodePeer peerOf peerWidths runWidths linkWidths total cut
   link-of v = refl
 
-module _ (s : List ℕ) (h : length s ≡ recordSize width) where
-  put-peer : (i at : ℕ) (v : List ℕ) → i < 4 → length v ≡ getD (peerWidths width) i 0 → at ≡ total (take i (peerWidths width)) → at + length v ≤ length s
-      → decodePeer width (put s at v) ≡ peerOf width (set (cut 0 (peerWidths width) s) i v)
+module _ (W : ℕ) (s : List ℕ) (h : length s ≡ recordSize W) where
+  put-peer : (i at : ℕ) (v : List ℕ) → i < 4 → length v ≡ getD (peerWidths W) i 0 → at ≡ total (take i (peerWidths W)) → at + length v ≤ length s
+      → decodePeer W (put s at v) ≡ peerOf W (set (cut 0 (peerWidths W) s) i v)
   unfolding decodePeer peerWidths
-  put-peer i at v n l e k = ap (peerOf width) (cut-put (peerWidths width) s i at v n l e k)
+  put-peer i at v n l e k = ap (peerOf W) (cut-put (peerWidths W) s i at v n l e k)
 
-  pub used-left : (x : ℕ) → x < 256 → decodePeer width (put s 0 (oct 1 x)) ≡ record { used = x; address = decodePeer width s .address; run = decodePeer width s .run; link = decodePeer width s .link }
+  pub used-left : (x : ℕ) → x < 256 → decodePeer W (put s 0 (oct 1 x)) ≡ record { used = x; address = decodePeer W s .address; run = decodePeer W s .run; link = decodePeer W s .link }
   unfolding peerWidths total
   used-left x b =
       let n = num-oct 1 x b in
-      put-peer 0 0 (oct 1 x) (lit< tt) (length-oct 1 x) refl (omega (arith, length-oct 1 x)) ∙ used-of s (oct 1 x) ∙ (λ i. record { used = n i; address = decodePeer width s .address; run = decodePeer width s .run; link = decodePeer width s .link })
+      put-peer 0 0 (oct 1 x) (lit< tt) (length-oct 1 x) refl (omega (arith, length-oct 1 x)) ∙ used-of W s (oct 1 x) ∙ (λ i. record { used = n i; address = decodePeer W s .address; run = decodePeer W s .run; link = decodePeer W s .link })
 
-  pub address-left : (a : List ℕ) → length a ≡ 6 → decodePeer width (put s 1 a) ≡ record { used = decodePeer width s .used; address = a; run = decodePeer width s .run; link = decodePeer width s .link }
+  pub address-left : (a : List ℕ) → length a ≡ 6 → decodePeer W (put s 1 a) ≡ record { used = decodePeer W s .used; address = a; run = decodePeer W s .run; link = decodePeer W s .link }
   unfolding peerWidths total
-  address-left a n = put-peer 1 1 a (lit< tt) n refl (omega arith) ∙ address-of s a
+  address-left a n = put-peer 1 1 a (lit< tt) n refl (omega arith) ∙ address-of W s a
 
   -- the run in its own octets, and what a change of them leaves
-  pub run-window : decodeRun width (take (runSize width) (drop 7 s)) ≡ decodePeer width s .run
+  pub run-window : (n : ℕ) → n ≡ runSize W → decodeRun W (take n (drop 7 s)) ≡ decodePeer W s .run
   unfolding part
-  run-window = sym (ap (λ (p : Peer). p .run) (peer-at width s))
+  run-window n q = ap (λ (k : ℕ). decodeRun W (take k (drop 7 s))) q ∙ sym (ap (λ (p : Peer). p .run) (peer-at W s))
 
-  pub run-left : (y : List ℕ) (r : Run) → length y ≡ runSize width → decodeRun width y ≡ r
-      → decodePeer width (putMid 7 (runSize width) s y) ≡ record { used = decodePeer width s .used; address = decodePeer width s .address; run = r; link = decodePeer width s .link }
+  pub run-left : (n : ℕ) (y : List ℕ) (r : Run) → n ≡ runSize W → length y ≡ runSize W → decodeRun W y ≡ r
+      → decodePeer W (putMid 7 n s y) ≡ record { used = decodePeer W s .used; address = decodePeer W s .address; run = r; link = decodePeer W s .link }
   unfolding peerWidths runWidths linkWidths total
-  run-left y r n e =
-      ap (decodePeer width) (mid-put 7 (runSize width) s y n) ∙ put-peer 2 7 y (lit< tt) n refl (omega arith) ∙ run-of s y
-      ∙ (λ i. record { used = decodePeer width s .used; address = decodePeer width s .address; run = e i; link = decodePeer width s .link })
+  run-left n y r q l e =
+      ap (decodePeer W) (mid-put 7 n s y (l ∙ sym q)) ∙ put-peer 2 7 y (lit< tt) (omega arith) refl (omega arith) ∙ run-of W s y
+      ∙ (λ i. record { used = decodePeer W s .used; address = decodePeer W s .address; run = e i; link = decodePeer W s .link })
 
   -- the link in its own octets, and what a change of them leaves
-  pub link-window : decodeLink width (take (linkSize width) (drop (7 + runSize width) s)) ≡ decodePeer width s .link
+  pub link-window : (a n : ℕ) → a ≡ linkAt W → n ≡ linkSize W → decodeLink W (take n (drop a s)) ≡ decodePeer W s .link
   unfolding part
-  link-window = sym (ap (λ (p : Peer). p .link) (peer-at width s))
+  link-window a n p q = ap (λ (k : ℕ). decodeLink W (take k (drop a s))) q ∙ ap (λ (k : ℕ). decodeLink W (take (linkSize W) (drop k s))) p ∙ sym (ap (λ (x : Peer). x .link) (peer-at W s))
 
-  pub link-left : (z : List ℕ) (l : Link) → length z ≡ linkSize width → decodeLink width z ≡ l
-      → decodePeer width (putMid (7 + runSize width) (linkSize width) s z) ≡ record { used = decodePeer width s .used; address = decodePeer width s .address; run = decodePeer width s .run; link = l }
+  pub link-left : (a n : ℕ) (z : List ℕ) (l : Link) → a ≡ linkAt W → n ≡ linkSize W → length z ≡ linkSize W → decodeLink W z ≡ l
+      → decodePeer W (putMid a n s z) ≡ record { used = decodePeer W s .used; address = decodePeer W s .address; run = decodePeer W s .run; link = l }
   unfolding peerWidths runWidths linkWidths total
-  link-left z l n e =
-      ap (decodePeer width) (mid-put (7 + runSize width) (linkSize width) s z n) ∙ put-peer 3 (7 + runSize width) z (lit< tt) n refl (omega arith) ∙ link-of s z
-      ∙ (λ i. record { used = decodePeer width s .used; address = decodePeer width s .address; run = decodePeer width s .run; link = e i })
+  link-left a n z l p q m e =
+      ap (decodePeer W) (mid-put a n s z (m ∙ sym q)) ∙ put-peer 3 a z (lit< tt) (omega arith) (omega arith) (omega arith) ∙ link-of W s z
+      ∙ (λ i. record { used = decodePeer W s .used; address = decodePeer W s .address; run = decodePeer W s .run; link = e i })
 
 -- ---- a part that is zero
 
-pub no-run-left : (n : ℕ) → n ≡ runSize width → decodeRun width (replicate n 0) ≡ noRun
-no-run-left n e = rw e (ap (decodeRun width) (sym zero-run) ∙ dec-enc-run width noRun (fit-no-run .shape))
+pub no-run-left : (W n : ℕ) → W ≤ width → n ≡ runSize W → decodeRun W (replicate n 0) ≡ noRun
+no-run-left W n w e = rw e (no-run-at W w)
 
-pub no-link-left : (n : ℕ) → n ≡ linkSize width → decodeLink width (replicate n 0) ≡ noLink
-no-link-left n e = rw e (ap (decodeLink width) (sym zero-link) ∙ dec-enc-link width noLink (fit-no-link .shape))
+pub no-link-left : (W n : ℕ) → W ≤ width → n ≡ linkSize W → decodeLink W (replicate n 0) ≡ noLink
+no-link-left W n w e = rw e (no-link-at W w)
 
-pub no-peer-left : (n : ℕ) → n ≡ recordSize width → decodePeer width (replicate n 0) ≡ noPeer
-no-peer-left n e = rw e (ap (decodePeer width) (sym zero-peer) ∙ dec-enc-peer width noPeer (shape-peer fit-no-peer))
+pub no-peer-left : (W n : ℕ) → W ≤ width → n ≡ recordSize W → decodePeer W (replicate n 0) ≡ noPeer
+no-peer-left W n w e = rw e (no-peer-at W w)
 
 -- ---- zeros
 

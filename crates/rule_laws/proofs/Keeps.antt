@@ -15,11 +15,12 @@ use Rattle.octets.specs.Scan.{isNothing}
 use Rattle.octets.specs.Octets.{Bytes, allZero}
 use Rattle.octets.specs.declared.Found.{Found}
 use Rattle.octets.specs.declared.Found.the-variants.{At, Nothing}
-use Rattle.octets.proofs.Laws.{length-part, bytes-part}
+use Rattle.octets.proofs.Laws.{bytes-part}
 use Rattle.octets.proofs.Scan.{clash, and-left, and-right}
 use Rattle.octets.proofs.Tests.{zero-zeros}
-use Rattle.groups.specs.Groups.{width, known, listed, freshAt, freshFor, indexOf, place, placeFrom, placeOr0, mark, marked}
-use Rattle.groups.proofs.Laws.{chosen, place-at, listed-place}
+use Rattle.groups.specs.Groups.{width, known, listed, freshOf, freshAt, freshFor, indexOf, place, placeFrom, placeOr0, mark, marked}
+use Rattle.groups.proofs.Laws.{stored-bytes, room-in, chosen, place-at, listed-place}
+use Rattle.groups.proofs.Fresh.{fresh-part, fresh-width}
 use Rattle.record.specs.declared.Run.{Run}
 use Rattle.record.specs.declared.Link.{Link}
 use Rattle.record.specs.declared.Peer.{Peer}
@@ -56,13 +57,21 @@ pub record Stored (g : ℕ) (c : List ℕ) : Type 0 where
   pub tail : commitOk g c ≡ true
 
 -- the fresh commits of the listed groups
-pub record Stock (gs fresh : List ℕ) : Type 0 where
+pub record Stock (gs : List ℕ) (fresh : List (List ℕ)) : Type 0 where
   pub each : (i : ℕ) → i < length gs → Stored (getD gs i 0) (freshAt fresh i)
 
-pub stock-form : (gs fresh : List ℕ) → length fresh ≡ width * length gs → Bytes fresh → ((i : ℕ) → i < length gs → commitOk (getD gs i 0) (freshAt fresh i) ≡ true) → Stock gs fresh
-unfolding freshAt
-stock-form gs fresh l b f =
-    record { each = λ i h. record { long = length-part fresh (width * i) width (omega arith); bytes = bytes-part fresh (width * i) width b; tail = f i h } }
+-- a stock lent as octets, W for each group
+pub stock-form : (W : ℕ) (gs s : List ℕ) → 1 ≤ W → W ≤ width → length s ≡ W * length gs → Bytes s
+    → ((i : ℕ) → i < length gs → commitOk (getD gs i 0) (freshAt (freshOf W s) i) ≡ true) → Stock gs (freshOf W s)
+stock-form W gs s p w l b f =
+    record {
+      each = λ i h. let r = room-in W i (length gs) (length s) h l in
+          record {
+            long = fresh-width W i s p w r;
+            bytes = subst Bytes (sym (fresh-part W i s p r)) (stored-bytes _ (bytes-part s (W * i) W b));
+            tail = f i h;
+          };
+    }
 
 -- a received Commit as the rules see it
 pub record Heard (gs : List ℕ) (m : Message) : Type 0 where
@@ -255,7 +264,7 @@ index-listed gs g l = go (place gs g) refl (sym (listed-place gs g) ∙ l)
     go Nothing e n = absurd (clash n refl)
 
 -- the fresh commit of a listed group
-pub fresh-stored : (gs fresh : List ℕ) (g : ℕ) → Stock gs fresh → listed gs g ≡ true → Stored g (freshFor gs fresh g)
+pub fresh-stored : (gs : List ℕ) (fresh : List (List ℕ)) (g : ℕ) → Stock gs fresh → listed gs g ≡ true → Stored g (freshFor gs fresh g)
 unfolding freshFor
 fresh-stored gs fresh g s l =
     let w = index-listed gs g l in
@@ -723,7 +732,7 @@ module _ (own gs : List ℕ) (high : ℕ) (a : List ℕ) where
       }
 
   -- "77: our group"
-  pub switch-keeps : (κ : Clock) (p : Peer) (fresh : List ℕ) → Lists gs → Stock gs fresh → Kept own gs high a p → p .run .state ≡ 1 → Keeps own gs high a (switching κ p gs fresh)
+  pub switch-keeps : (κ : Clock) (p : Peer) (fresh : List (List ℕ)) → Lists gs → Stock gs fresh → Kept own gs high a p → p .run .state ≡ 1 → Keeps own gs high a (switching κ p gs fresh)
   unfolding switched
   switch-keeps κ p fresh l s k e =
       let q = parts own gs high a p k in

@@ -22,7 +22,7 @@ whether P true x y f g = f refl
 whether P false x y f g = g refl
 
 -- "77: our group": a group is left, or none is
-pub switch-outcomes : (P : Step → Type 0) (κ : Clock) (p : Peer) (groups fresh : List ℕ) →
+pub switch-outcomes : (P : Step → Type 0) (κ : Clock) (p : Peer) (groups : List ℕ) (fresh : List (List ℕ)) →
     ((i g : ℕ) → firstLeft groups 0 (mark (p .run .rejected) (indexOf groups (p .run .group))) ≡ choice.Group i g
     → P (sending κ p (switched (p .run) (mark (p .run .rejected) (indexOf groups (p .run .group))) g (freshAt fresh i)) (One (commitFrame g)) g))
     → (firstLeft groups 0 (mark (p .run .rejected) (indexOf groups (p .run .group))) ≡ choice.None → P (abandoning p))

@@ -48,8 +48,8 @@ pub record Call : Type 0 where
   pub address : List ℕ
   -- the clock's reading, and with it the first period and the Sync limit of the table
   pub clock : Clock
-  -- the stock: "144 octets for each group in list order"
-  pub fresh : List ℕ
+  -- the stock, "for each group in list order": its commits
+  pub fresh : List (List ℕ)
   -- the token "that the host expects from this sender"
   pub expected : List ℕ
   -- "one verdict: commit valid, or Confirm right for the part it goes to"
@@ -395,11 +395,11 @@ starting κ p address group own =
     }
 
 -- "mark it rejected and take the first group in its own list that is not marked as rejected, with a fresh commit (Sync and token stay, send, set t0); none, give up"
-unfoldable pub switchingTo : Clock → Peer → ℕ → Choice → List ℕ → Step
+unfoldable pub switchingTo : Clock → Peer → ℕ → Choice → List (List ℕ) → Step
 switchingTo κ p rejected (choice.Group i g) fresh = sending κ p (switched (p .run) rejected g (freshAt fresh i)) (One (commitFrame g)) g
 switchingTo κ p rejected choice.None fresh = abandoning p
 
-unfoldable pub switching : Clock → Peer → List ℕ → List ℕ → Step
+unfoldable pub switching : Clock → Peer → List ℕ → List (List ℕ) → Step
 switching κ p groups fresh =
     let rejected = mark (p .run .rejected) (indexOf groups (p .run .group)) in
     switchingTo κ p rejected (firstLeft groups 0 rejected) fresh

@@ -5,7 +5,7 @@ use Rattle.record.specs.declared.Run.{Run}
 use Rattle.record.specs.declared.Link.{Link}
 use Rattle.record.specs.declared.Peer.{Peer}
 
--- ---- a run with another t0; another Sync; another Sc; another token; another group, own commit and rejected groups
+-- ---- a run with another t0; another Sync; another Sc; another own commit; another token; another group, own commit and rejected groups
 
 abbrev pub withT0 : Run → ℕ → Run
 withT0 r t0 =
@@ -52,6 +52,21 @@ withSc r sc =
       token = r .token;
     }
 
+unfoldable pub withOwn : Run → List ℕ → Run
+withOwn r own =
+    record {
+      state = r .state;
+      sync = r .sync;
+      rejected = r .rejected;
+      sc = r .sc;
+      group = r .group;
+      toklen = r .toklen;
+      t0 = r .t0;
+      own = own;
+      peer = r .peer;
+      token = r .token;
+    }
+
 unfoldable pub withToken : Run → ℕ → List ℕ → Run
 withToken r toklen token =
     record {
@@ -82,7 +97,7 @@ switched r rejected group own =
       token = r .token;
     }
 
--- ---- a link with another mark; another Rc and Sync
+-- ---- a link with another mark; another Rc and Sync; the numbers of one that has just finished
 
 abbrev pub withMark : Link → ℕ → Link
 withMark l superseded =
@@ -108,6 +123,20 @@ heardAgain l rc sync =
       group = l .group;
       rc = rc;
       t1 = l .t1;
+      own = l .own;
+      peer = l .peer;
+    }
+
+unfoldable pub finishedAs : Link → ℕ → ℕ → ℕ → ℕ → Link
+finishedAs l sync group rc t1 =
+    record {
+      finished = 1;
+      superseded = 0;
+      sync = sync;
+      spare = 0;
+      group = group;
+      rc = rc;
+      t1 = t1;
       own = l .own;
       peer = l .peer;
     }

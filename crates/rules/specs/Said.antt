@@ -3,7 +3,6 @@ use mathlib.Core.Path.{_≡_}
 use mathlib.Core.Bool.{true, false}
 use mathlib.Core.List.{List}
 use Prim.Native.Nat.{ℕ}
-use Rattle.groups.specs.Groups.{width}
 use Rattle.record.specs.Layout.{decodePeer}
 use Rattle.rules.specs.declared.Event.{Event}
 use Rattle.rules.specs.declared.Event.the-variants as event
@@ -25,6 +24,6 @@ abbrev pub sayingRefused : Said
 sayingRefused = record { event = event.None; frames = frames.None; afresh = 0; refused = true }
 
 -- the octets left say the step's record, and the answer is what the step says
-pub record Does (x : Said) (left : List ℕ) (s : Step) : Type 0 where
-  pub leaves : decodePeer width left ≡ s .peer
+pub record Does (W : ℕ) (x : Said) (left : List ℕ) (s : Step) : Type 0 where
+  pub leaves : decodePeer W left ≡ s .peer
   pub says : x ≡ saying s

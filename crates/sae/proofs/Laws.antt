@@ -227,10 +227,10 @@ module _ (t frame given : List ℕ) (b : Bool) (h : Header) (L : Looked t b h) w
         let y : v ≡ view (groupsOf (decodeTable t .header)) frame = seen in
         record { returns = rw (z, ← y, n); leaves = rw (z, ← y, n) w }
 
--- ---- a frame has at most 408 octets
+-- ---- a frame has at most 462 octets
 
 pub record Small (d : Drawn) : Type 0 where
-  pub most : (s : List ℕ) → d ≡ Octets s → length s ≤ 408
+  pub most : (s : List ℕ) → d ≡ Octets s → length s ≤ 462
 
 small-none : Small Outside
 small-none = record { most = λ s e. let z : _≡_ {A = ℕ} 0 1 = cc in absurd (omega arith) }

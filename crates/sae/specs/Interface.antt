@@ -115,9 +115,9 @@ abbrev pub writtenLeft : Wrote → ℕ → ℕ
 writtenLeft (wrote.Length n) old = n
 writtenLeft (wrote.Refused c) old = old
 
--- a frame has at most 8 + 256 + 144 octets
+-- a frame has at most 8 + 256 octets and those of a commit, 198 as a value has it
 pub record Counted (w : Wrote) : Type 0 where
-  pub most : (n : ℕ) → w ≡ wrote.Length n → n ≤ 408
+  pub most : (n : ℕ) → w ≡ wrote.Length n → n ≤ 462
 
 pub record Writes (r : ℕ) (out : List ℕ) (written given : ℕ) (l : LeftOut) : Type 0 where
   pub returns : r ≡ wroteNumber (l .answer)

@@ -1,20 +1,22 @@
 -- The form as facts, both ways, and what an unused part holds.
-use mathlib.Core.Path.{_≡_, refl, sym, ap, _∙_, subst}
+use mathlib.Core.Path.{_≡_, refl, ap, _∙_, subst}
 use mathlib.Core.Logic.{_⊎_, inl, inr}
 use mathlib.Core.Bool.{Bool, true, false, not, _||_}
 use mathlib.Core.List.{List, [], _∷_}
-use Prim.Native.Nat.{ℕ, _+_, _-_, _^_, _≤_, _<_}
+use Prim.Native.Nat.{ℕ, _+_, _^_, _≤_, _<_}
 use native.Mathlib.Omega.{arith}
 use native.Mathlib.Decide.{ℕ-discrete}
-use lib.Dec.{eqb, leb, ltb}
+use lib.Dec.{eqb, leb, ltb, lit≤}
 use lib.ListN.{length, take, drop}
 use lib.Seq.{length-take-le}
 use borrow.Author.Tests.{eq-eqb, ne-eqb, eqb-true, le-leb, leb-true, lt-ltb, ltb-true, not-true}
 use Rattle.octets.specs.Octets.{allZero}
+use Rattle.octets.specs.Scan.{if_then_else_}
 use Rattle.octets.proofs.Scan.{clash, and-left, and-right, and-both}
-use Rattle.octets.proofs.Tests.{zero-is, zero-zeros}
+use Rattle.octets.proofs.Tests.{zero-zeros}
 use Rattle.groups.specs.Groups.{width, known, listed, marked, indexOf}
-use Rattle.record.specs.Layout.{encodeRun, decodeRun, encodeLink, decodeLink, encodePeer, decodePeer, runSize, linkSize, recordSize, noRun, noLink, noPeer, counted}
+use Rattle.record.specs.Layout.{runSize, linkSize, recordSize, noRun, noLink, noPeer, narrow, noForm, formOf, formIn, widthIn, counted}
+use Rattle.record.specs.declared.Form.{Form}
 use Rattle.record.specs.declared.Run.{Run}
 use Rattle.record.specs.declared.Link.{Link}
 use Rattle.record.specs.declared.Peer.{Peer}
@@ -22,35 +24,23 @@ use Rattle.record.specs.declared.Geometry.{Geometry}
 use Rattle.record.specs.declared.Counts.{Counts}
 use Rattle.record.specs.declared.Settings.{Settings}
 use Rattle.record.specs.declared.Header.{Header}
-use Rattle.record.proofs.Laws.{ShapeRun, ShapeLink, ShapePeer, length-run, length-link, length-peer, dec-enc-run, dec-enc-link, dec-enc-peer, zero-run, zero-link, zero-peer, fit-no-run, fit-no-link, fit-no-peer, shape-peer}
+use Rattle.record.proofs.Laws.{ShapeRun, ShapeLink, ShapePeer, zero-run, zero-link, zero-peer, zeros-run, zeros-link, zeros-peer, form-known}
 use Rattle.soundness.specs.Soundness.{ownOk, usable, allKnown, eachOnce, groupsOk, settingsOk, geometryOk, headerOk, commitOk, tokenOk, rejectedOk, committedOk, confirmedOk, runOk, finishedOk, linkOk, freeOk, inUseOk, peerOk}
 
 -- ---- unused parts
 
-zeros-run : (r : Run) → ShapeRun width r → allZero (encodeRun r) ≡ true → r ≡ noRun
-zeros-run r f z =
-    sym (dec-enc-run width r f) ∙ ap (decodeRun width) (zero-is (encodeRun r) (runSize width) (length-run width r f) z ∙ sym zero-run) ∙ dec-enc-run width noRun (fit-no-run .shape)
-
-zeros-link : (l : Link) → ShapeLink width l → allZero (encodeLink l) ≡ true → l ≡ noLink
-zeros-link l f z =
-    sym (dec-enc-link width l f) ∙ ap (decodeLink width) (zero-is (encodeLink l) (linkSize width) (length-link width l f) z ∙ sym zero-link) ∙ dec-enc-link width noLink (fit-no-link .shape)
-
-zeros-peer : (p : Peer) → ShapePeer width p → allZero (encodePeer p) ≡ true → p ≡ noPeer
-zeros-peer p f z =
-    sym (dec-enc-peer width p f) ∙ ap (decodePeer width) (zero-is (encodePeer p) (recordSize width) (length-peer width p f) z ∙ sym zero-peer) ∙ dec-enc-peer width noPeer (shape-peer fit-no-peer)
-
 -- no run, no link, a free slot have the form
 pub no-run-ok : (gs : List ℕ) (high : ℕ) → runOk gs high noRun ≡ true
 unfolding runOk noRun
-no-run-ok gs high = ap allZero zero-run ∙ zero-zeros (runSize width)
+no-run-ok gs high = ap allZero (zero-run width (lit≤ tt)) ∙ zero-zeros (runSize width)
 
 pub no-link-ok : (gs : List ℕ) (high : ℕ) → linkOk gs high noLink ≡ true
 unfolding linkOk noLink
-no-link-ok gs high = ap allZero zero-link ∙ zero-zeros (linkSize width)
+no-link-ok gs high = ap allZero (zero-link width (lit≤ tt)) ∙ zero-zeros (linkSize width)
 
 pub no-peer-ok : (own gs : List ℕ) (high : ℕ) → peerOk own gs high noPeer ≡ true
 unfolding peerOk noPeer freeOk
-no-peer-ok own gs high = ap allZero zero-peer ∙ zero-zeros (recordSize width)
+no-peer-ok own gs high = ap allZero (zero-peer width (lit≤ tt)) ∙ zero-zeros (recordSize width)
 
 -- and nothing else is unused
 pub run-unused : (gs : List ℕ) (high : ℕ) (r : Run) → ShapeRun width r → runOk gs high r ≡ true → r .state ≡ 0 → r ≡ noRun
@@ -257,24 +247,33 @@ in-use-peer own gs high p f = rw (ne-eqb (p .used) 0 (λ e. omega (arith, f .use
 
 -- ---- the groups and the header
 
-pub record Groups (n : ℕ) (gs : List ℕ) : Type 0 where
+pub record Groups (most n : ℕ) (gs : List ℕ) : Type 0 where
   pub some : 1 ≤ n
-  pub few : n ≤ 2
+  pub few : n ≤ most
   pub known : allKnown (take n gs) ≡ true
   pub once : eachOnce (take n gs) ≡ true
   pub rest : allZero (drop n gs) ≡ true
 
-pub groups-form : (n : ℕ) (gs : List ℕ) → groupsOk n gs ≡ true → Groups n gs
+pub groups-form : (most n : ℕ) (gs : List ℕ) → groupsOk most n gs ≡ true → Groups most n gs
 unfolding groupsOk
-groups-form n gs ok =
+groups-form most n gs ok =
     let k₁ = and-right (leb 1 n) _ ok in
-    let k₂ = and-right (leb n 2) _ k₁ in
+    let k₂ = and-right (leb n most) _ k₁ in
     let k₃ = and-right (allKnown (take n gs)) _ k₂ in
     record { some = leb-true _ _ (and-left _ _ ok); few = leb-true _ _ (and-left _ _ k₁); known = and-left _ _ k₂; once = and-left _ _ k₃; rest = and-right (eachOnce (take n gs)) _ k₃ }
 
+-- no form has more than two groups
+pub form-groups : (size : ℕ) → formOf size .groups ≤ 2
+unfolding formOf
+form-groups size = go (eqb size 864)
+  where
+    go : (b : Bool) → (if b then narrow else noForm) .groups ≤ 2
+    go true = lit≤ tt
+    go false = lit≤ tt
+
 -- a list of one or two groups
-pub groups-length : (n : ℕ) (gs : List ℕ) → length gs ≡ 3 → groupsOk n gs ≡ true → length (take n gs) ≡ n
-groups-length n gs l ok = let f = groups-form n gs ok in length-take-le n gs (omega (arith, f .few))
+pub groups-length : (most n : ℕ) (gs : List ℕ) → most ≤ 2 → length gs ≡ 3 → groupsOk most n gs ≡ true → length (take n gs) ≡ n
+groups-length most n gs h l ok = let f = groups-form most n gs ok in length-take-le n gs (omega (arith, f .few))
 
 -- a listed group is a known one
 pub listed-known : (gs : List ℕ) (g : ℕ) → allKnown gs ≡ true → listed gs g ≡ true → known g ≡ true
@@ -286,41 +285,43 @@ listed-known (x ∷ gs) g a l = go (eqb x g) refl l (λ m. listed-known gs g (an
     go true e m ih = subst (λ (y : ℕ). known y ≡ true) (eqb-true x g e) (and-left (known x) _ a)
     go false e m ih = ih m
 
-pub record SettingsForm (s : Settings) : Type 0 where
-  pub groups : groupsOk (s .count) (s .groups) ≡ true
+pub record SettingsForm (f : Form) (s : Settings) : Type 0 where
+  pub groups : groupsOk (f .groups) (s .count) (s .groups) ≡ true
   pub threshold : s .threshold ≤ 64
   pub period : s .period ≡ 0
   pub limit : s .limit ≡ 0
 
-pub settings-form : (s : Settings) → settingsOk s ≡ true → SettingsForm s
+pub settings-form : (f : Form) (s : Settings) → settingsOk f s ≡ true → SettingsForm f s
 unfolding settingsOk
-settings-form s ok =
-    let k₁ = and-right (groupsOk (s .count) (s .groups)) _ ok in
+settings-form f s ok =
+    let k₁ = and-right (groupsOk (f .groups) (s .count) (s .groups)) _ ok in
     let k₂ = and-right (leb (s .threshold) 64) _ k₁ in
     record { groups = and-left _ _ ok; threshold = leb-true _ _ (and-left _ _ k₁); period = eqb-true _ _ (and-left _ _ k₂); limit = eqb-true _ _ (and-right (eqb (s .period) 0) _ k₂) }
 
 pub record GeometryForm (g : Geometry) : Type 0 where
   pub some : 1 ≤ g .slots
-  pub few : g .slots ≤ 64
-  pub size : g .size ≡ recordSize width
+  pub few : g .slots ≤ formOf (g .size) .slots
   pub first : g .first ≡ 32
 
 pub geometry-form : (g : Geometry) → geometryOk g ≡ true → GeometryForm g
 unfolding geometryOk
 geometry-form g ok =
     let k₁ = and-right (leb 1 (g .slots)) _ ok in
-    let k₂ = and-right (leb (g .slots) 64) _ k₁ in
-    record { some = leb-true _ _ (and-left _ _ ok); few = leb-true _ _ (and-left _ _ k₁); size = eqb-true _ _ (and-left _ _ k₂); first = eqb-true _ _ (and-right (eqb (g .size) (recordSize width)) _ k₂) }
+    record { some = leb-true _ _ (and-left _ _ ok); few = leb-true _ _ (and-left _ _ k₁); first = eqb-true _ _ (and-right (leb (g .slots) (formOf (g .size) .slots)) _ k₁) }
 
 pub form-geometry : (g : Geometry) → GeometryForm g → geometryOk g ≡ true
 unfolding geometryOk
-form-geometry g f = and-both _ _ (le-leb _ _ (f .some)) (and-both _ _ (le-leb _ _ (f .few)) (and-both _ _ (eq-eqb _ _ (f .size)) (eq-eqb _ _ (f .first))))
+form-geometry g f = and-both _ _ (le-leb _ _ (f .some)) (and-both _ _ (le-leb _ _ (f .few)) (eq-eqb _ _ (f .first)))
+
+-- a geometry that has its form is of the one known
+pub geometry-known : (g : Geometry) → GeometryForm g → (g .size ≡ 864) × (formOf (g .size) ≡ narrow)
+geometry-known g f = form-known (g .size) (omega (arith, f .some, f .few))
 
 pub record HeaderForm (h : Header) : Type 0 where
   pub geometry : GeometryForm (h .geometry)
   pub spare : h .spare ≡ 0
   pub own : ownOk (h .own) ≡ true
-  pub settings : settingsOk (h .settings) ≡ true
+  pub settings : settingsOk (formIn h) (h .settings) ≡ true
 
 pub header-form : (h : Header) → headerOk h ≡ true → HeaderForm h
 unfolding headerOk
@@ -332,6 +333,17 @@ header-form h ok =
 pub form-header : (h : Header) → HeaderForm h → headerOk h ≡ true
 unfolding headerOk
 form-header h f = and-both _ _ (form-geometry _ (f .geometry)) (and-both _ _ (eq-eqb _ _ (f .spare)) (and-both _ _ (f .own) (f .settings)))
+
+-- its form is the one known, its commits are stored with 144 octets, and it lists one or two groups
+pub header-known : (h : Header) → headerOk h ≡ true → formIn h ≡ narrow
+header-known h ok = geometry-known (h .geometry) (header-form h ok .geometry) .1
+
+pub header-width : (h : Header) → headerOk h ≡ true → widthIn h ≡ 144
+header-width h ok = ap (λ (f : Form). f .width) (header-known h ok)
+
+pub header-groups : (h : Header) → headerOk h ≡ true → Groups 2 (h .settings .count) (h .settings .groups)
+header-groups h ok =
+    groups-form 2 _ _ (settings-form narrow _ (subst (λ (f : Form). settingsOk f (h .settings) ≡ true) (header-known h ok) (header-form h ok .settings)) .groups)
 
 -- the counts are not looked at
 pub header-counted : (h : Header) (n : Counts) → headerOk (counted h n) ≡ headerOk h

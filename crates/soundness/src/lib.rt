@@ -4,21 +4,33 @@ ghost use Prim.Native.Nat.{_+_, _≤_};
 ghost use lib.ListN.{length, drop};
 ghost use Rattle.octets.specs.Octets.{part, allZero};
 ghost use Rattle.groups.specs.Groups.{width};
-ghost use Rattle.record.specs.Layout.{runSize, linkSize, recordSize, decodeRun, decodeLink, decodePeer};
+ghost use Rattle.record.specs.Layout.{runSize, linkSize, recordSize, formOf, decodeRun, decodeLink, decodePeer};
 ghost use Rattle.soundness.specs.Soundness.{ownOk, usable, groupsOk, settingsOk, geometryOk, headerOk, rejectedOk, tokenOk, committedOk, confirmedOk, runOk, finishedOk, linkOk, inUseOk, peerOk};
-use groups::COMMIT;
+use record::ADDRESS;
+use record::FINISHED;
+use record::Form;
+use record::GROUP;
 use record::Geometry;
 use record::HEADER;
 use record::Header;
-use record::LINK;
+use record::LINK_GROUP;
 use record::LINK_OWN;
-use record::LINK_PEER;
-use record::RECORD;
+use record::LINK_SYNC;
+use record::NARROW_LINK;
+use record::NARROW_RECORD;
+use record::NARROW_RUN;
+use record::REJECTED;
 use record::RUN;
 use record::RUN_OWN;
-use record::RUN_PEER;
-use record::RUN_TOKEN;
+use record::SC;
+use record::SPARE;
+use record::STATE;
+use record::SUPERSEDED;
+use record::SYNC;
 use record::Settings;
+use record::TOKEN;
+use record::TOKLEN;
+use record::USED;
 
 pub fn own_ok(own: [u8; 6]) -> bool
     ensures { λ r. ⌜ r ≡ ownOk own ⌝ }
@@ -38,10 +50,14 @@ pub fn is_usable(own: [u8; 6], a: [u8; 6]) -> bool
     individual & (!zero & !same)
 }
 
-// One or two known groups, each once, and no entry past the count.
-pub fn groups_ok(n: u8, gs: [u16; 3]) -> bool
-    ensures { λ r. ⌜ r ≡ groupsOk n gs ⌝ }
+// One or two known groups, no more than the form has room for, each once, and no entry past the count.
+pub fn groups_ok(most: u8, n: u8, gs: [u16; 3]) -> bool
+    requires { ⌜ most ≤ 2 ⌝ }
+    ensures { λ r. ⌜ r ≡ groupsOk most n gs ⌝ }
 {
+    if most < n {
+        return false;
+    }
     let a = gs[0];
     let b = gs[1];
     let c = gs[2];
@@ -56,18 +72,20 @@ pub fn groups_ok(n: u8, gs: [u16; 3]) -> bool
     false
 }
 
-pub fn settings_ok(s: Settings) -> bool
-    ensures { λ r. ⌜ r ≡ settingsOk s ⌝ }
+pub fn settings_ok(form: Form, s: Settings) -> bool
+    requires { ⌜ form .groups ≤ 2 ⌝ }
+    ensures { λ r. ⌜ r ≡ settingsOk form s ⌝ }
 {
     let gs = s.groups;
-    let groups = groups_ok(s.count, gs);
+    let groups = groups_ok(form.groups, s.count, gs);
     groups & ((s.threshold <= 64) & ((s.period == 0) & (s.limit == 0)))
 }
 
-fn geometry_ok(g: Geometry) -> bool
+fn geometry_ok(form: Form, g: Geometry) -> bool
+    requires { ⌜ form ≡ formOf (g .size) ⌝ }
     ensures { λ r. ⌜ r ≡ geometryOk g ⌝ }
 {
-    (1 <= g.slots) & ((g.slots <= 64) & ((g.size == RECORD as u16) & (g.first == HEADER as u16)))
+    (1 <= g.slots) & ((g.slots <= form.slots) & (g.first == HEADER as u16))
 }
 
 // The header, its counts apart.
@@ -77,9 +95,10 @@ pub fn header_ok(h: Header) -> bool
     let g = h.geometry;
     let own = h.own;
     let s = h.settings;
-    let geometry = geometry_ok(g);
+    let form = record::form_of(g.size);
+    let geometry = geometry_ok(form, g);
     let owner = own_ok(own);
-    let settings = settings_ok(s);
+    let settings = settings_ok(form, s);
     geometry & ((h.spare == 0) & (owner & settings))
 }
 
@@ -88,136 +107,155 @@ fn zero_tail(s: &[u8], at: usize, n: usize, m: usize) -> bool
     requires { ⌜ at + m ≤ length (now s) ⌝ }
     ensures { λ r. ⌜ r ≡ allZero (drop n (part (now (s .entry)) at m)) ⌝ }
 {
+    if n == 0 {
+        return octets::zero_part(s, at, m);
+    }
     if m < n {
         return true;
     }
     octets::zero_part(s, at + n, m - n)
 }
 
-// The rejected groups are listed ones, and the run's own is not among them.
-fn rejected_ok(s: &[u8], groups: &[u16]) -> bool
-    requires { ⌜ (length (now s) ≡ runSize width) × ((1 ≤ length (now groups)) × (length (now groups) ≤ 8)) ⌝ }
-    ensures { λ r. ⌜ r ≡ rejectedOk (now (groups .entry)) (decodeRun width (now (s .entry))) ⌝ }
+// Every octet is zero. Where the length is the one expected, the compiler knows how many octets it looks at.
+fn zero_all(s: &[u8], n: usize) -> bool
+    ensures { λ r. ⌜ r ≡ allZero (now (s .entry)) ⌝ }
 {
-    let rejected = octets::get8(s, 2);
-    let group = octets::get16(s, 5);
+    if s.len() == n {
+        return octets::zero_part(s, 0, n);
+    }
+    octets::all_zero(s)
+}
+
+// The rejected groups are listed ones, and the run's own is not among them.
+fn rejected_ok(s: &[u8], w: usize, groups: &[u16]) -> bool
+    requires { ⌜ (length (now s) ≡ runSize w) × ((1 ≤ length (now groups)) × (length (now groups) ≤ 8)) ⌝ }
+    ensures { λ r. ⌜ r ≡ rejectedOk (now (groups .entry)) (decodeRun w (now (s .entry))) ⌝ }
+{
+    let rejected = octets::get8(s, REJECTED);
+    let group = octets::get16(s, GROUP);
     let i = groups::index_of(groups, group);
     let own = groups::is_marked(rejected, i);
     let past = groups::marks_from(rejected, groups.len());
     (past == 0) & !own
 }
 
-fn token_ok(s: &[u8]) -> bool
-    requires { ⌜ length (now s) ≡ runSize width ⌝ }
-    ensures { λ r. ⌜ r ≡ tokenOk (decodeRun width (now (s .entry))) ⌝ }
+fn token_ok(s: &[u8], w: usize) -> bool
+    requires { ⌜ (length (now s) ≡ runSize w) × (w ≤ width) ⌝ }
+    ensures { λ r. ⌜ r ≡ tokenOk (decodeRun w (now (s .entry))) ⌝ }
 {
-    let n = octets::get16(s, 7);
-    let rest = zero_tail(s, RUN_TOKEN, n as usize, 256);
-    (n <= 256) & rest
+    let n = octets::get16(s, TOKLEN);
+    let at = record::run_token_at(w);
+    let rest = zero_tail(s, at, n as usize, TOKEN);
+    (n <= TOKEN as u16) & rest
 }
 
-fn committed_ok(s: &[u8], groups: &[u16], high: u8) -> bool
-    requires { ⌜ (length (now s) ≡ runSize width) × ((1 ≤ length (now groups)) × (length (now groups) ≤ 8)) ⌝ }
-    ensures { λ r. ⌜ r ≡ committedOk (now (groups .entry)) high (decodeRun width (now (s .entry))) ⌝ }
+fn committed_ok(s: &[u8], w: usize, groups: &[u16], high: u8) -> bool
+    requires { ⌜ (length (now s) ≡ runSize w) × ((w ≤ width) × ((1 ≤ length (now groups)) × (length (now groups) ≤ 8))) ⌝ }
+    ensures { λ r. ⌜ r ≡ committedOk (now (groups .entry)) high (decodeRun w (now (s .entry))) ⌝ }
 {
-    let sync = octets::get8(s, 1);
-    let sc = octets::get16(s, 3);
-    let group = octets::get16(s, 5);
-    let rejected = rejected_ok(s, groups);
+    let sync = octets::get8(s, SYNC);
+    let sc = octets::get16(s, SC);
+    let group = octets::get16(s, GROUP);
+    let rejected = rejected_ok(s, w, groups);
     let listed = groups::is_listed(groups, group);
-    let token = token_ok(s);
+    let token = token_ok(s, w);
     let n = groups::commit_length(group);
-    let own = zero_tail(s, RUN_OWN, n, COMMIT);
-    let peer = octets::zero_part(s, RUN_PEER, COMMIT);
+    let at = record::run_peer_at(w);
+    let own = groups::zero_past(s, RUN_OWN, w, n);
+    let peer = groups::zero_past(s, at, w, 0);
     (sync <= high) & (rejected & ((sc == 0) & (listed & (token & (own & peer)))))
 }
 
-fn confirmed_ok(s: &[u8], groups: &[u16], high: u8) -> bool
-    requires { ⌜ length (now s) ≡ runSize width ⌝ }
-    ensures { λ r. ⌜ r ≡ confirmedOk (now (groups .entry)) high (decodeRun width (now (s .entry))) ⌝ }
+fn confirmed_ok(s: &[u8], w: usize, groups: &[u16], high: u8) -> bool
+    requires { ⌜ (length (now s) ≡ runSize w) × (w ≤ width) ⌝ }
+    ensures { λ r. ⌜ r ≡ confirmedOk (now (groups .entry)) high (decodeRun w (now (s .entry))) ⌝ }
 {
-    let sync = octets::get8(s, 1);
-    let rejected = octets::get8(s, 2);
-    let sc = octets::get16(s, 3);
-    let group = octets::get16(s, 5);
+    let sync = octets::get8(s, SYNC);
+    let rejected = octets::get8(s, REJECTED);
+    let sc = octets::get16(s, SC);
+    let group = octets::get16(s, GROUP);
     let listed = groups::is_listed(groups, group);
-    let token = token_ok(s);
+    let token = token_ok(s, w);
     let n = groups::commit_length(group);
-    let own = zero_tail(s, RUN_OWN, n, COMMIT);
-    let peer = zero_tail(s, RUN_PEER, n, COMMIT);
+    let at = record::run_peer_at(w);
+    let own = groups::zero_past(s, RUN_OWN, w, n);
+    let peer = groups::zero_past(s, at, w, n);
     (sync <= high)
         & ((rejected == 0) & ((sc == sync as u16 + 1) & (listed & (token & (own & peer)))))
 }
 
 // The run in its own octets: no run is one zero test over all of them.
-pub fn run_ok(s: &[u8], groups: &[u16], high: u8) -> bool
-    requires { ⌜ (length (now s) ≡ runSize width) × ((1 ≤ length (now groups)) × (length (now groups) ≤ 8)) ⌝ }
-    ensures { λ r. ⌜ r ≡ runOk (now (groups .entry)) high (decodeRun width (now (s .entry))) ⌝ }
+pub fn run_ok(s: &[u8], w: usize, groups: &[u16], high: u8) -> bool
+    requires { ⌜ (length (now s) ≡ runSize w) × ((w ≤ width) × ((1 ≤ length (now groups)) × (length (now groups) ≤ 8))) ⌝ }
+    ensures { λ r. ⌜ r ≡ runOk (now (groups .entry)) high (decodeRun w (now (s .entry))) ⌝ }
 {
-    let state = octets::get8(s, 0);
+    let state = octets::get8(s, STATE);
     if state == 0 {
-        return octets::all_zero(s);
+        return zero_all(s, NARROW_RUN);
     }
     if state == 1 {
-        return committed_ok(s, groups, high);
+        return committed_ok(s, w, groups, high);
     }
     if state == 2 {
-        return confirmed_ok(s, groups, high);
+        return confirmed_ok(s, w, groups, high);
     }
     false
 }
 
-fn finished_ok(s: &[u8], groups: &[u16], high: u8) -> bool
-    requires { ⌜ length (now s) ≡ linkSize width ⌝ }
-    ensures { λ r. ⌜ r ≡ finishedOk (now (groups .entry)) high (decodeLink width (now (s .entry))) ⌝ }
+fn finished_ok(s: &[u8], w: usize, groups: &[u16], high: u8) -> bool
+    requires { ⌜ (length (now s) ≡ linkSize w) × (w ≤ width) ⌝ }
+    ensures { λ r. ⌜ r ≡ finishedOk (now (groups .entry)) high (decodeLink w (now (s .entry))) ⌝ }
 {
-    let finished = octets::get8(s, 0);
-    let superseded = octets::get8(s, 1);
-    let sync = octets::get8(s, 2);
-    let spare = octets::get8(s, 3);
-    let group = octets::get16(s, 4);
+    let finished = octets::get8(s, FINISHED);
+    let superseded = octets::get8(s, SUPERSEDED);
+    let sync = octets::get8(s, LINK_SYNC);
+    let spare = octets::get8(s, SPARE);
+    let group = octets::get16(s, LINK_GROUP);
     let listed = groups::is_listed(groups, group);
     let n = groups::commit_length(group);
-    let own = zero_tail(s, LINK_OWN, n, COMMIT);
-    let peer = zero_tail(s, LINK_PEER, n, COMMIT);
+    let at = record::link_peer_at(w);
+    let own = groups::zero_past(s, LINK_OWN, w, n);
+    let peer = groups::zero_past(s, at, w, n);
     (finished == 1)
         & ((superseded <= 1) & ((sync <= high) & ((spare == 0) & (listed & (own & peer)))))
 }
 
 // The link in its own octets: no link is one zero test over all of them.
-pub fn link_ok(s: &[u8], groups: &[u16], high: u8) -> bool
-    requires { ⌜ length (now s) ≡ linkSize width ⌝ }
-    ensures { λ r. ⌜ r ≡ linkOk (now (groups .entry)) high (decodeLink width (now (s .entry))) ⌝ }
+pub fn link_ok(s: &[u8], w: usize, groups: &[u16], high: u8) -> bool
+    requires { ⌜ (length (now s) ≡ linkSize w) × (w ≤ width) ⌝ }
+    ensures { λ r. ⌜ r ≡ linkOk (now (groups .entry)) high (decodeLink w (now (s .entry))) ⌝ }
 {
-    let finished = octets::get8(s, 0);
+    let finished = octets::get8(s, FINISHED);
     if finished == 0 {
-        return octets::all_zero(s);
+        return zero_all(s, NARROW_LINK);
     }
-    finished_ok(s, groups, high)
+    finished_ok(s, w, groups, high)
 }
 
-fn in_use_ok(s: &[u8], own: [u8; 6], groups: &[u16], high: u8) -> bool
-    requires { ⌜ (length (now s) ≡ recordSize width) × ((1 ≤ length (now groups)) × (length (now groups) ≤ 8)) ⌝ }
-    ensures { λ r. ⌜ r ≡ inUseOk own (now (groups .entry)) high (decodePeer width (now (s .entry))) ⌝ }
+fn in_use_ok(s: &[u8], w: usize, own: [u8; 6], groups: &[u16], high: u8) -> bool
+    requires { ⌜ (length (now s) ≡ recordSize w) × ((w ≤ width) × ((1 ≤ length (now groups)) × (length (now groups) ≤ 8))) ⌝ }
+    ensures { λ r. ⌜ r ≡ inUseOk own (now (groups .entry)) high (decodePeer w (now (s .entry))) ⌝ }
 {
-    let used = octets::get8(s, 0);
-    let address = octets::take6(s, 1);
-    let state = octets::get8(s, RUN);
-    let finished = octets::get8(s, LINK);
+    let at = record::link_at(w);
+    let end = record::record_size(w);
+    let used = octets::get8(s, USED);
+    let address = octets::take6(s, ADDRESS);
+    let state = octets::get8(s, RUN + STATE);
+    let finished = octets::get8(s, at + FINISHED);
     let usable = is_usable(own, address);
-    let run = run_ok(&s[RUN..LINK], groups, high);
-    let link = link_ok(&s[LINK..RECORD], groups, high);
+    let run = run_ok(&s[RUN..at], w, groups, high);
+    let link = link_ok(&s[at..end], w, groups, high);
     (used == 1) & (usable & (run & (link & ((state != 0) | (finished != 0)))))
 }
 
 // The record in its own octets: a free slot is one zero test over all of them.
-pub fn peer_ok(s: &[u8], own: [u8; 6], groups: &[u16], high: u8) -> bool
-    requires { ⌜ (length (now s) ≡ recordSize width) × ((1 ≤ length (now groups)) × (length (now groups) ≤ 8)) ⌝ }
-    ensures { λ r. ⌜ r ≡ peerOk own (now (groups .entry)) high (decodePeer width (now (s .entry))) ⌝ }
+pub fn peer_ok(s: &[u8], w: usize, own: [u8; 6], groups: &[u16], high: u8) -> bool
+    requires { ⌜ (length (now s) ≡ recordSize w) × ((w ≤ width) × ((1 ≤ length (now groups)) × (length (now groups) ≤ 8))) ⌝ }
+    ensures { λ r. ⌜ r ≡ peerOk own (now (groups .entry)) high (decodePeer w (now (s .entry))) ⌝ }
 {
-    let used = octets::get8(s, 0);
+    let used = octets::get8(s, USED);
     if used == 0 {
-        return octets::all_zero(s);
+        return zero_all(s, NARROW_RECORD);
     }
-    in_use_ok(s, own, groups, high)
+    in_use_ok(s, w, own, groups, high)
 }

@@ -11,34 +11,35 @@ use Rattle.octets.proofs.Laws.{bytes-part, bytes-drop}
 use Rattle.octets.proofs.Scan.{count-le}
 use Rattle.groups.specs.Groups.{width}
 use Rattle.record.specs.declared.Peer.{Peer}
-use Rattle.record.specs.Layout.{noPeer}
-use Rattle.record.proofs.Laws.{FitPeer, fit-peer, fit-header}
-use Rattle.table.specs.Table.{Table, size, decodeTable, encodeTable, peersOf, slots, slot, inUse, isOpen, recounted, withPeer, placed, usedCount, openCount}
-use Rattle.table.proofs.Octets.{Fits, none, more, FitTable, bytes-table}
+use Rattle.record.specs.Layout.{widthIn, recordSize, recordAt, noPeer}
+use Rattle.record.proofs.Laws.{FitPeer, StorablePeer, fit-peer, storable-peer, fit-header, form-width}
+use Rattle.table.specs.Table.{Table, widthOf, decodeTable, encodeTable, peersOf, slots, slot, inUse, isOpen, recounted, withPeer, placed, usedCount, openCount}
+use Rattle.table.proofs.Octets.{next, many, after-header, Fits, none, more, FitTable, bytes-table}
 
-fit-peers : (n : ℕ) (s : List ℕ) → Bytes s → length s ≡ size * n → Fits (peersOf n s)
+fit-peers : (W n : ℕ) (s : List ℕ) → W ≤ width → Bytes s → length s ≡ recordSize W * n → Fits W (peersOf W n s)
 unfolding peersOf part
-fit-peers zero s b h = none
-fit-peers (suc n) s b h =
-    let l : length (drop size s) ≡ size * n = length-drop size s ∙ omega arith in
-    more (fit-peer width (take size s) (bytes-part s 0 size b) (length-take-le size s (omega arith))) (fit-peers n (drop size s) (bytes-drop size s b) l)
+fit-peers W zero s w b h = none
+fit-peers W (suc n) s w b h =
+    let l : length (drop (recordSize W) s) ≡ recordSize W * n = length-drop (recordSize W) s ∙ omega (arith, h, next (recordSize W) n) in
+    let k : length (take (recordSize W) s) ≡ recordSize W = length-take-le (recordSize W) s (omega (arith, h, next (recordSize W) n)) in
+    more (fit-peer W (take (recordSize W) s) w (bytes-part s 0 (recordSize W) b) k) (storable-peer W (take (recordSize W) s) k) (fit-peers W n (drop (recordSize W) s) w (bytes-drop (recordSize W) s b) l)
 
-pub fit-decoded : (t : List ℕ) (n : ℕ) → Bytes t → length t ≡ 32 + size * n → FitTable (decodeTable t)
-unfolding decodeTable
+pub fit-decoded : (t : List ℕ) (n : ℕ) → Bytes t → length t ≡ recordAt (widthOf t) n → FitTable (decodeTable t)
+unfolding decodeTable recordAt
 fit-decoded t n b h =
-    let q : (length t - 32) / size ≡ n = omega arith in
-    let l : length (drop 32 t) ≡ size * ((length t - 32) / size) = length-drop 32 t ∙ omega arith in
-    record { header = fit-header t b (omega arith); peers = fit-peers _ (drop 32 t) (bytes-drop 32 t b) l }
+    let q : (length t - 32) / recordSize (widthOf t) ≡ n = many (widthOf t) n (length t) h in
+    let l : length (drop 32 t) ≡ recordSize (widthOf t) * ((length t - 32) / recordSize (widthOf t)) = rw q (length-drop 32 t ∙ omega (arith, h)) in
+    record { header = fit-header t b (omega (arith, h)); peers = fit-peers (widthOf t) _ (drop 32 t) (form-width _) (bytes-drop 32 t b) l }
 
-pub fits-set : {ps : List Peer} (k : ℕ) {p : Peer} → Fits ps → FitPeer width p → Fits (set ps k p)
-fits-set k none f = none
-fits-set zero (more g r) f = more f r
-fits-set (suc k) (more g r) f = more g (fits-set k r f)
+pub fits-set : {W : ℕ} {ps : List Peer} (k : ℕ) {p : Peer} → Fits W ps → FitPeer width p → StorablePeer W p → Fits W (set ps k p)
+fits-set k none f g = none
+fits-set zero (more h i r) f g = more f g r
+fits-set (suc k) (more h i r) f g = more h i (fits-set k r f g)
 
 -- a record that fits, placed in a table that fits
-pub fit-placed : (T : Table) (k : ℕ) (p : Peer) → FitTable T → FitPeer width p → FitTable (placed T k p)
+pub fit-placed : (T : Table) (k : ℕ) (p : Peer) → FitTable T → FitPeer width p → StorablePeer (widthIn (T .header)) p → FitTable (placed T k p)
 unfolding placed recounted withPeer usedCount openCount
-fit-placed T k p f g =
+fit-placed T k p f g i =
     let h = f .header .shape in
     let u : usedCount (withPeer T k p) ≤ slots T = count-le (λ j. inUse (slot (withPeer T k p) j)) (slots T) in
     let o : openCount (withPeer T k p) ≤ slots T = count-le (λ j. isOpen (slot (withPeer T k p) j)) (slots T) in
@@ -53,17 +54,17 @@ fit-placed T k p f g =
         };
         own = f .header .own;
       };
-      peers = fits-set k (f .peers) g;
+      peers = fits-set k (f .peers) g i;
     }
 
 -- and its octets are octets
-pub bytes-placed : (t : List ℕ) (n k : ℕ) (p : Peer) → Bytes t → length t ≡ 32 + size * n → FitPeer width p → Bytes (encodeTable (placed (decodeTable t) k p))
-bytes-placed t n k p b h f = bytes-table (placed (decodeTable t) k p) (fit-placed (decodeTable t) k p (fit-decoded t n b h) f)
+pub bytes-placed : (t : List ℕ) (n k : ℕ) (p : Peer) → Bytes t → length t ≡ recordAt (widthOf t) n → FitPeer width p → StorablePeer (widthIn (decodeTable t .header)) p → Bytes (encodeTable (placed (decodeTable t) k p))
+bytes-placed t n k p b h f g = bytes-table (placed (decodeTable t) k p) (fit-placed (decodeTable t) k p (fit-decoded t n b h) f g)
 
-fits-at : {ps : List Peer} (k : ℕ) → Fits ps → k < length ps → FitPeer width (getD ps k noPeer)
+fits-at : {W : ℕ} {ps : List Peer} (k : ℕ) → Fits W ps → k < length ps → FitPeer width (getD ps k noPeer)
 fits-at k none h = absurd (omega arith)
-fits-at zero (more f r) h = f
-fits-at (suc k) (more f r) h = fits-at k r (omega arith)
+fits-at zero (more f g r) h = f
+fits-at (suc k) (more f g r) h = fits-at k r (omega arith)
 
 -- every slot of what octets say fits
 pub fit-slot : (T : Table) (k : ℕ) → FitTable T → k < length (T .peers) → FitPeer width (slot T k)

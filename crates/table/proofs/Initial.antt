@@ -5,7 +5,8 @@ use mathlib.Core.List.{List, [], _∷_, _++_, append-nil}
 use Prim.Native.Nat.{ℕ, zero, suc, _+_, _-_, _*_, _/_, _%_, _≤_, _<_}
 use native.Mathlib.Omega.{arith}
 use native.Mathlib.Decide.{ℕ-discrete}
-use lib.Dec.{eqb, leb, lit<}
+use native.Mathlib.Nat.{mul-zero}
+use lib.Dec.{eqb, leb, lit<, lit≤}
 use lib.ListN.{length, take, drop, getD, replicate, length-replicate, length-drop, drop-of-length-le}
 use lib.Seq.{length-take-le, drop-at}
 use borrow.Rule.Slice.PartMut.{putMid}
@@ -14,16 +15,18 @@ use Rattle.octets.specs.Octets.{Bytes, put}
 use Rattle.octets.proofs.Laws.{mid-put}
 use Rattle.octets.specs.Scan.{if_then_else_, countBelow}
 use Rattle.octets.proofs.Scan.{clash, and-left, and-right}
+use Rattle.record.specs.declared.Form.{Form as Kind}
 use Rattle.record.specs.declared.Peer.{Peer}
 use Rattle.record.specs.declared.Header.{Header}
 use Rattle.record.specs.declared.Settings.{Settings}
-use Rattle.record.specs.Layout.{noPeer, noRun, encodeHeader, limitOf}
-use Rattle.record.proofs.Laws.{ShapeSettings, fit-no-peer, zero-peer}
+use Rattle.groups.specs.Groups.{width}
+use Rattle.record.specs.Layout.{recordSize, recordAt, formOf, noPeer, noRun, encodeHeader, limitOf}
+use Rattle.record.proofs.Laws.{ShapeSettings, StorablePeer, storable-peer, fit-no-peer, no-peer-at, zero-peer}
 use Rattle.soundness.specs.Soundness.{ownOk, settingsOk, peerOk}
 use Rattle.soundness.proofs.Laws.{form-header, no-peer-ok}
-use Rattle.table.specs.Table.{size, octetsOf, encodeTable, decodeTable, slot, slots, inUse, isOpen, belongs, usedCount, openCount, recounted, sound}
-use Rattle.table.specs.Initial.{slotsFor, lengthOk, initialHeader, initialTable, initialOk, initial}
-use Rattle.table.proofs.Octets.{Fits, none, more, FitTable, decode-encode, bytes-table}
+use Rattle.table.specs.Table.{octetsOf, encodeTable, decodeTable, slot, slots, inUse, isOpen, belongs, usedCount, openCount, recounted, sound}
+use Rattle.table.specs.Initial.{made, slotsFor, lengthOk, initialHeader, initialTable, initialOk, initial}
+use Rattle.table.proofs.Octets.{next, Fits, none, more, FitTable, decode-encode, bytes-table}
 use Rattle.table.proofs.Kept.{Form, form-sound}
 use Rattle.table.proofs.Changed.{recounted-same}
 
@@ -50,12 +53,12 @@ not-open : isOpen noPeer ≡ false
 unfolding noPeer noRun
 not-open = refl
 
-module _ (s : Settings) (own : List ℕ) (n : ℕ) (ok : settingsOk s ≡ true) (o : ownOk own ≡ true) (some : 1 ≤ n) (few : n ≤ 64) where
+module _ (s : Settings) (own : List ℕ) (n : ℕ) (ok : settingsOk made s ≡ true) (o : ownOk own ≡ true) (some : 1 ≤ n) (few : n ≤ 64) where
   pub fresh-form : Form (initialTable s own n)
-  unfolding initialTable initialHeader usedCount openCount belongs
+  unfolding initialTable initialHeader usedCount openCount belongs formOf
   fresh-form = record {
     header = form-header (initialHeader s own n) (record {
-      geometry = record { some = some; few = few; size = refl; first = refl };
+      geometry = record { some = some; few = few; first = refl };
       spare = refl;
       own = o;
       settings = ok;
@@ -70,37 +73,63 @@ module _ (s : Settings) (own : List ℕ) (n : ℕ) (ok : settingsOk s ≡ true) 
         λ i. record { used = sym u i; opened = sym o i; spare = 0 };
   }
 
+-- the numbers of the form that set up makes
+pub made-size : {f : Kind} → f ≡ made → f .size ≡ made .size
+made-size e = ap (λ (f : Kind). f .size) e
+
+pub made-slots : {f : Kind} → f ≡ made → f .slots ≡ made .slots
+made-slots e = ap (λ (f : Kind). f .slots) e
+
+pub made-header : (s : Settings) (own : List ℕ) (n : ℕ) (f : Kind) → f ≡ made
+    → _≡_ {A = Header}
+    (record { geometry = record { slots = n; size = f .size; first = 32 }; counts = record { used = 0; opened = 0; spare = 0 }; spare = 0; own = own; settings = s })
+    (initialHeader s own n)
+unfolding initialHeader
+made-header s own n f e =
+    λ i. record { geometry = record { slots = n; size = e i .size; first = 32 }; counts = record { used = 0; opened = 0; spare = 0 }; spare = 0; own = own; settings = s }
+
 -- what `length_ok` shows
 pub length-short : (n : ℕ) → n < 32 → false ≡ lengthOk n
 unfolding lengthOk slotsFor
-length-short n h = let e : (n - 32) / size ≡ 0 = omega arith in sym (rw e refl)
+length-short n h = let e : (n - 32) / 864 ≡ 0 = omega arith in sym (rw e refl)
 
-pub length-law : (n k : ℕ) → 32 ≤ n → k ≡ slotsFor n → (leb 1 k && (leb k 64 && eqb ((n - 32) % size) 0)) ≡ lengthOk n
-unfolding lengthOk slotsFor
-length-law n k h e = rw e (ap (λ (b : Bool). leb 1 ((n - 32) / size) && (leb ((n - 32) / size) 64 && b)) (go (ℕ-discrete ((n - 32) % size) 0)))
+pub length-law : (n k : ℕ) → 32 ≤ n → k ≡ slotsFor n → (leb 1 k && (leb k (made .slots) && eqb ((n - 32) % made .size) 0)) ≡ lengthOk n
+unfolding lengthOk slotsFor recordAt
+length-law n k h e = rw e (ap (λ (b : Bool). leb 1 ((n - 32) / 864) && (leb ((n - 32) / 864) 64 && b)) (go (ℕ-discrete ((n - 32) % 864) 0)))
   where
-    go : Dec ((n - 32) % size ≡ 0) → eqb ((n - 32) % size) 0 ≡ eqb n (32 + size * ((n - 32) / size))
-    go (yes z) = eq-eqb _ _ z ∙ sym (eq-eqb n (32 + size * ((n - 32) / size)) (omega arith))
-    go (no d) = ne-eqb _ _ d ∙ sym (ne-eqb n (32 + size * ((n - 32) / size)) (λ q. d (omega arith)))
+    go : Dec ((n - 32) % 864 ≡ 0) → eqb ((n - 32) % 864) 0 ≡ eqb n (32 + 864 * ((n - 32) / 864))
+    go (yes z) = eq-eqb _ _ z ∙ sym (eq-eqb n (32 + 864 * ((n - 32) / 864)) (omega arith))
+    go (no d) = ne-eqb _ _ d ∙ sym (ne-eqb n (32 + 864 * ((n - 32) / 864)) (λ q. d (omega arith)))
+
+pub length-by : (n k : ℕ) (f : Kind) → f ≡ made → 32 ≤ n → k ≡ slotsFor n → (leb 1 k && (leb k (f .slots) && eqb ((n - 32) % f .size) 0)) ≡ lengthOk n
+length-by n k f e h q = ap (λ (g : Kind). leb 1 k && (leb k (g .slots) && eqb ((n - 32) % g .size) 0)) e ∙ length-law n k h q
+
+pub slots-by : (n : ℕ) (f : Kind) → f ≡ made → (n - 32) / f .size ≡ slotsFor n
+unfolding slotsFor
+slots-by n f e = ap (λ (g : Kind). (n - 32) / g .size) e
 
 -- ---- the fresh table fits, and its octets
 
-fits-none : (n : ℕ) → Fits (replicate n noPeer)
-fits-none zero = none
-fits-none (suc n) = more fit-no-peer (fits-none n)
+storable-none : (W : ℕ) → W ≤ width → StorablePeer W noPeer
+storable-none W w = subst (StorablePeer W) (no-peer-at W w) (storable-peer W (replicate (recordSize W) 0) (length-replicate {A = ℕ} (recordSize W) 0))
+
+fits-none : (W n : ℕ) → W ≤ width → Fits W (replicate n noPeer)
+fits-none W zero w = none
+fits-none W (suc n) w = more fit-no-peer (storable-none W w) (fits-none W n w)
 
 zeros-append : (m n : ℕ) → replicate m 0 ++ replicate n 0 ≡ replicate {A = ℕ} (m + n) 0
 zeros-append zero n = let e : 0 + n ≡ n = omega arith in rw e refl
 zeros-append (suc m) n = let e : suc m + n ≡ suc (m + n) = omega arith in rw e (ap (λ (l : List ℕ). 0 ∷ l) (zeros-append m n))
 
-octets-none : (n : ℕ) → octetsOf (replicate n noPeer) ≡ replicate (size * n) 0
+octets-none : (W n : ℕ) → W ≤ width → octetsOf W (replicate n noPeer) ≡ replicate (recordSize W * n) 0
 unfolding octetsOf
-octets-none zero = refl
-octets-none (suc n) = let e : size + size * n ≡ size * suc n = omega arith in rw (zero-peer, octets-none n) (zeros-append size (size * n) ∙ ap (λ (m : ℕ). replicate m 0) e)
+octets-none W zero w = rw (mul-zero (recordSize W)) refl
+octets-none W (suc n) w =
+    rw (zero-peer W w, octets-none W n w) (zeros-append (recordSize W) (recordSize W * n) ∙ ap (λ (m : ℕ). replicate m 0) (next (recordSize W) n))
 
-pub initial-octets : (s : Settings) (own : List ℕ) (n : ℕ) → encodeTable (initialTable s own n) ≡ encodeHeader (initialHeader s own n) ++ replicate (size * n) 0
-unfolding encodeTable initialTable
-initial-octets s own n = ap (λ (l : List ℕ). encodeHeader (initialHeader s own n) ++ l) (octets-none n)
+pub initial-octets : (s : Settings) (own : List ℕ) (n : ℕ) → encodeTable (initialTable s own n) ≡ encodeHeader (initialHeader s own n) ++ replicate (made .size * n) 0
+unfolding encodeTable initialTable initialHeader formOf
+initial-octets s own n = ap (λ (l : List ℕ). encodeHeader (initialHeader s own n) ++ l) (octets-none (made .width) n (lit≤ tt))
 
 -- settings and an own address whose numbers and arrays fit
 pub record FitSettings (s : Settings) (own : List ℕ) : Type 0 where
@@ -109,7 +138,7 @@ pub record FitSettings (s : Settings) (own : List ℕ) : Type 0 where
   pub bytes : Bytes own
 
 pub fit-initial : (s : Settings) (own : List ℕ) (n : ℕ) → n ≤ 64 → FitSettings s own → FitTable (initialTable s own n)
-unfolding initialTable initialHeader
+unfolding initialTable initialHeader formOf
 fit-initial s own n h f = record {
   header = record {
     shape = record {
@@ -121,7 +150,7 @@ fit-initial s own n h f = record {
     };
     own = f .bytes;
   };
-  peers = fits-none n;
+  peers = fits-none (made .width) n (lit≤ tt);
 }
 
 length-initial : (s : Settings) (own : List ℕ) (n : ℕ) → length (initialTable s own n .peers) ≡ slots (initialTable s own n)
@@ -130,16 +159,16 @@ length-initial s own n = length-replicate n noPeer
 
 -- what cause 1 leaves out
 pub record InitialForm (s : Settings) (own : List ℕ) (l : ℕ) : Type 0 where
-  pub settings : settingsOk s ≡ true
+  pub settings : settingsOk made s ≡ true
   pub owner : ownOk own ≡ true
   pub some : 1 ≤ slotsFor l
   pub few : slotsFor l ≤ 64
-  pub whole : l ≡ 32 + size * slotsFor l
+  pub whole : l ≡ 32 + made .size * slotsFor l
 
 pub initial-ok-form : (s : Settings) (own : List ℕ) (l : ℕ) → initialOk s own l ≡ true → InitialForm s own l
-unfolding initialOk lengthOk
+unfolding initialOk lengthOk recordAt
 initial-ok-form s own l ok =
-    let k₁ = and-right (settingsOk s) _ ok in
+    let k₁ = and-right (settingsOk made s) _ ok in
     let k₂ = and-right (ownOk own) _ k₁ in
     let k₃ = and-right (leb 1 (slotsFor l)) _ k₂ in
     record { settings = and-left _ _ ok; owner = and-left _ _ k₁; some = leb-true _ _ (and-left _ _ k₂); few = leb-true _ _ (and-left _ _ k₃); whole = eqb-true _ _ (and-right (leb (slotsFor l) 64) _ k₃) }
@@ -168,7 +197,7 @@ bytes-initial s own t f b = go (initialOk s own (length t)) refl
     go false e = rw e b
 
 -- its counts are true: made true, they leave it as it is
-pub initial-recounted : (s : Settings) (own : List ℕ) (n : ℕ) → settingsOk s ≡ true → ownOk own ≡ true → 1 ≤ n → n ≤ 64 → recounted (initialTable s own n) ≡ initialTable s own n
+pub initial-recounted : (s : Settings) (own : List ℕ) (n : ℕ) → settingsOk made s ≡ true → ownOk own ≡ true → 1 ≤ n → n ≤ 64 → recounted (initialTable s own n) ≡ initialTable s own n
 initial-recounted s own n ok o some few = recounted-same (initialTable s own n) (fresh-form s own n ok o some few .counts)
 
 -- CAUSE 1 leaves every octet
@@ -203,5 +232,5 @@ unfolding initial
 written-law s own t y b k h e q ek eh ey =
     let ok : initialOk s own (length t) ≡ true = sym e ∙ not-false b q in
     let g = initial-by s own t b e q in
-    let w : length t - 32 ≡ size * slotsFor (length t) = omega (arith, g .whole) in
+    let w : length t - 32 ≡ made .size * slotsFor (length t) = omega (arith, g .whole) in
     (sym ok, ey ∙ rw (ok, eh, ek, w) (sym (initial-octets s own (slotsFor (length t)))))

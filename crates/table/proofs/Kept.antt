@@ -18,12 +18,13 @@ use Rattle.octets.proofs.Scan.{clash, cases, and-left, and-right, and-both, all
 use Rattle.groups.specs.Groups.{width}
 use Rattle.record.specs.declared.Peer.{Peer}
 use Rattle.record.specs.declared.Counts.{Counts}
-use Rattle.record.specs.Layout.{groupsOf, noPeer}
-use Rattle.record.proofs.Laws.{FitPeer}
+use Rattle.record.specs.Layout.{widthIn, recordAt, groupsOf, noPeer}
+use Rattle.record.proofs.Laws.{FitPeer, StorablePeer, shape-peer}
 use Rattle.soundness.specs.Soundness.{headerOk, highSync, peerOk}
 use Rattle.soundness.proofs.Laws.{header-counted}
-use Rattle.table.specs.Table.{Table, size, decodeTable, encodeTable, slot, slots, inUse, belongs, alone, slotsOk, addressesOk, countsOk, sound, usedCount, openCount, countsOf, withPeer, placed, recounted, finds, look, lookBy}
-use Rattle.table.proofs.Octets.{FitTable, decode-encode, encode-decode, length-table}
+use Rattle.soundness.proofs.Storable.{header-room, peer-storable}
+use Rattle.table.specs.Table.{Table, widthOf, decodeTable, encodeTable, slot, slots, inUse, belongs, alone, slotsOk, addressesOk, countsOk, sound, usedCount, openCount, countsOf, withPeer, placed, recounted, finds, look, lookBy}
+use Rattle.table.proofs.Octets.{FitTable, after-header, decode-encode, encode-decode, length-table}
 use Rattle.table.proofs.Laws.{sound-header, sound-whole, sound-addresses, sound-counts, sound-peer, sound-of, slot-same, slot-other, peers-held, found-below, counts-true}
 use Rattle.table.proofs.Changed.{recounted-same}
 use Rattle.table.proofs.Fit.{fit-decoded, fit-placed}
@@ -105,13 +106,17 @@ form-counts T F =
     and-both _ _ (eq-eqb _ _ (ap (λ (n : Counts). n .used) (F .counts)))
     (and-both _ _ (eq-eqb _ _ (ap (λ (n : Counts). n .opened) (F .counts))) (eq-eqb _ _ (ap (λ (n : Counts). n .spare) (F .counts))))
 
+whole-of : (t : List ℕ) (T : Table) → decodeTable t ≡ T → length t ≡ recordAt (widthIn (T .header)) (slots T) → length t ≡ recordAt (widthOf t) (slots (decodeTable t))
+unfolding decodeTable
+whole-of t T d l = l ∙ ap (λ (X : Table). recordAt (widthIn (X .header)) (slots X)) (sym d)
+
 pub form-sound : (T : Table) → FitTable T → length (T .peers) ≡ slots T → Form T → sound (encodeTable T) ≡ true
 form-sound T f n F =
     let d : decodeTable (encodeTable T) ≡ T = decode-encode T f in
-    let l : length (encodeTable T) ≡ 32 + size * length (T .peers) = length-table T f in
-    sound-of (encodeTable T) (omega (arith, l))
+    let l : length (encodeTable T) ≡ recordAt (widthIn (T .header)) (length (T .peers)) = length-table T f in
+    sound-of (encodeTable T) (omega (arith, l, after-header (widthIn (T .header)) (length (T .peers))))
     (subst (λ (X : Table). headerOk (X .header) ≡ true) (sym d) (F .header))
-    (subst (λ (X : Table). length (encodeTable T) ≡ 32 + size * slots X) (sym d) (l ∙ ap (λ (m : ℕ). 32 + size * m) n))
+    (whole-of (encodeTable T) T d (l ∙ ap (recordAt (widthIn (T .header))) n))
     (subst (λ (X : Table). slotsOk X ≡ true) (sym d) (form-slots T F))
     (subst (λ (X : Table). addressesOk X ≡ true) (sym d) (form-addresses T F))
     (subst (λ (X : Table). countsOk X ≡ true) (sym d) (form-counts T F))
@@ -185,33 +190,38 @@ peers-placed : (T : Table) (k : ℕ) (p : Peer) → length (placed T k p .peers)
 unfolding placed recounted withPeer
 peers-placed T k p = length-set (T .peers) k p
 
+-- a good record is stored with the table's width without loss
+pub good-storable : (t : List ℕ) (p : Peer) → sound t ≡ true → FitPeer width p
+    → peerOk (decodeTable t .header .own) (groupsOf (decodeTable t .header)) (highSync (decodeTable t .header)) p ≡ true → StorablePeer (widthIn (decodeTable t .header)) p
+good-storable t p s f g = peer-storable _ _ (header-room (decodeTable t .header) (sound-header t s)) _ _ p (shape-peer f) g
+
 -- and so is soundness, for every call that places a good record
 pub placed-sound : (t : List ℕ) (k : ℕ) (p : Peer) → Bytes t → sound t ≡ true → k < slots (decodeTable t) → FitPeer width p
     → peerOk (decodeTable t .header .own) (groupsOf (decodeTable t .header)) (highSync (decodeTable t .header)) p ≡ true → Alone (decodeTable t) k p → sound (encodeTable (placed (decodeTable t) k p)) ≡ true
 placed-sound t k p b s h f g A =
-    let w : length t ≡ 32 + size * slots (decodeTable t) = sound-whole t s in
+    let w : length t ≡ recordAt (widthOf t) (slots (decodeTable t)) = sound-whole t s in
     let n : length (decodeTable t .peers) ≡ slots (decodeTable t) = peers-held t (slots (decodeTable t)) w in
-    form-sound (placed (decodeTable t) k p) (fit-placed (decodeTable t) k p (fit-decoded t _ b w) f)
+    form-sound (placed (decodeTable t) k p) (fit-placed (decodeTable t) k p (fit-decoded t _ b w) f (good-storable t p s f g))
     (peers-placed (decodeTable t) k p ∙ n ∙ sym (placed-slots (decodeTable t) k p))
     (placed-form (decodeTable t) k p (rw n h) (sound-form t s) g A)
 
 -- what the table left says is what was placed
-pub placed-decoded : (t : List ℕ) (k : ℕ) (p : Peer) → Bytes t → sound t ≡ true → FitPeer width p
+pub placed-decoded : (t : List ℕ) (k : ℕ) (p : Peer) → Bytes t → sound t ≡ true → FitPeer width p → StorablePeer (widthIn (decodeTable t .header)) p
     → decodeTable (encodeTable (placed (decodeTable t) k p)) ≡ placed (decodeTable t) k p
-placed-decoded t k p b s f = decode-encode (placed (decodeTable t) k p) (fit-placed (decodeTable t) k p (fit-decoded t _ b (sound-whole t s)) f)
+placed-decoded t k p b s f g = decode-encode (placed (decodeTable t) k p) (fit-placed (decodeTable t) k p (fit-decoded t _ b (sound-whole t s)) f g)
 
 -- LOAD AFTER STORE, and every other slot as it was
-pub placed-loaded : (t : List ℕ) (k : ℕ) (p : Peer) → Bytes t → sound t ≡ true → k < slots (decodeTable t) → FitPeer width p
+pub placed-loaded : (t : List ℕ) (k : ℕ) (p : Peer) → Bytes t → sound t ≡ true → k < slots (decodeTable t) → FitPeer width p → StorablePeer (widthIn (decodeTable t .header)) p
     → slot (decodeTable (encodeTable (placed (decodeTable t) k p))) k ≡ p
-placed-loaded t k p b s h f =
+placed-loaded t k p b s h f g =
     let n : length (decodeTable t .peers) ≡ slots (decodeTable t) = peers-held t (slots (decodeTable t)) (sound-whole t s) in
-    ap (λ (T : Table). slot T k) (placed-decoded t k p b s f) ∙ placed-same (decodeTable t) k p (rw n h)
+    ap (λ (T : Table). slot T k) (placed-decoded t k p b s f g) ∙ placed-same (decodeTable t) k p (rw n h)
 
-pub placed-others : (t : List ℕ) (k j : ℕ) (p : Peer) → Bytes t → sound t ≡ true → k < slots (decodeTable t) → FitPeer width p → (j ≡ k → ⊥)
+pub placed-others : (t : List ℕ) (k j : ℕ) (p : Peer) → Bytes t → sound t ≡ true → k < slots (decodeTable t) → FitPeer width p → StorablePeer (widthIn (decodeTable t .header)) p → (j ≡ k → ⊥)
     → slot (decodeTable (encodeTable (placed (decodeTable t) k p))) j ≡ slot (decodeTable t) j
-placed-others t k j p b s h f d =
+placed-others t k j p b s h f g d =
     let n : length (decodeTable t .peers) ≡ slots (decodeTable t) = peers-held t (slots (decodeTable t)) (sound-whole t s) in
-    ap (λ (T : Table). slot T j) (placed-decoded t k p b s f) ∙ placed-other (decodeTable t) k p (rw n h) j d
+    ap (λ (T : Table). slot T j) (placed-decoded t k p b s f g) ∙ placed-other (decodeTable t) k p (rw n h) j d
 
 -- ---- by address
 

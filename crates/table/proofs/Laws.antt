@@ -1,11 +1,12 @@
 -- Laws of the table as a value: what soundness says, what the searches find, a record stored.
-use mathlib.Core.Path.{_≡_, refl, sym, ap, _∙_}
+use mathlib.Core.Path.{_≡_, refl, sym, ap, _∙_, subst}
 use mathlib.Core.Logic.{_⊎_, inl, inr}
 use mathlib.Core.Bool.{Bool, true, false, not, _&&_, _||_}
 use mathlib.Core.List.{List}
-use Prim.Native.Nat.{ℕ, zero, suc, _+_, _-_, _*_, _/_, _≤_, _<_}
+use Prim.Native.Nat.{ℕ, zero, suc, _+_, _-_, _*_, _/_, _^_, _≤_, _<_}
 use native.Mathlib.Omega.{arith}
-use native.Mathlib.Decide.{ℕ-discrete}
+use native.Mathlib.Nat.{mul-le-mul}
+use native.Mathlib.Decide.{ℕ-discrete, decLt}
 use lib.Dec.{eqb, leb, lit<}
 use lib.ListN.{length}
 use lib.Seq.{getD-set-same, getD-set-other}
@@ -15,18 +16,21 @@ use Rattle.octets.specs.Scan.{if_then_else_, allBelow, countBelow, firstBelow, 
 use Rattle.octets.specs.declared.Found.{Found}
 use Rattle.octets.specs.declared.Found.the-variants.{At, Nothing}
 use Rattle.octets.proofs.Scan.{cases, clash, and-left, and-right, and-both, all-true, all-of, first-at, first-nothing, last-at, count-but, count-le, bit-le}
+use Rattle.record.specs.declared.Form.{Form}
 use Rattle.record.specs.declared.Peer.{Peer}
 use Rattle.record.specs.declared.Counts.{Counts}
 use Rattle.record.specs.declared.Header.{Header}
-use Rattle.record.specs.Layout.{groupsOf, limitOf}
+use Rattle.groups.specs.Groups.{width}
+use Rattle.record.specs.Layout.{widthIn, recordSize, recordAt, groupsOf, limitOf}
+use Rattle.record.proofs.Laws.{form-width, record-below}
 use Rattle.soundness.specs.Soundness.{usable, headerOk, highSync, peerOk}
-use Rattle.soundness.proofs.Laws.{header-form, settings-form, groups-form}
-use Rattle.table.specs.Table.{Table, size, decodeTable, slot, slots, inUse, isOpen, belongs, alone, slotsOk, addressesOk, countsOk, sound, usedCount, openCount, countsOf, finds, freeSlot, entry, foundEntry, withPeer, standingOf, Changed, Ready, Whole, Sized, Looked, Enters}
+use Rattle.soundness.proofs.Laws.{header-form, settings-form, header-groups, header-known, geometry-known}
+use Rattle.table.specs.Table.{Table, widthOf, decodeTable, slot, slots, inUse, isOpen, belongs, alone, slotsOk, addressesOk, countsOk, sound, usedCount, openCount, countsOf, finds, freeSlot, entry, foundEntry, withPeer, standingOf, Changed, Ready, Whole, Reaches, Reached, Sized, Looked, Enters}
 use Rattle.table.specs.declared.Entrance.{Entrance}
 use Rattle.table.specs.declared.Standing.{Standing}
 use Rattle.table.specs.declared.Entry.{Entry}
 use Rattle.table.specs.declared.Entry.the-variants as entry-is
-use Rattle.table.proofs.Octets.{length-peers}
+use Rattle.table.proofs.Octets.{many, length-peers}
 
 -- the counts are those of the records, place by place
 pub counts-true : (T : Table) → countsOk T ≡ true → T .header .counts ≡ countsOf T
@@ -43,27 +47,31 @@ factory-low : {entry : ℕ} → entry ≡ 0 → limitOf entry + 1 < 256
 unfolding limitOf
 factory-low e = rw e (lit< tt)
 
+-- a header of the right form has at most 64 slots
+slots-few : (h : Header) → headerOk h ≡ true → h .geometry .slots ≤ 64
+slots-few h ok = subst (λ (f : Form). h .geometry .slots ≤ f .slots) (header-known h ok) (header-form h ok .geometry .few)
+
 -- what soundness says
 module _ (t : List ℕ) (s : sound t ≡ true) where
   pub sound-long : 32 ≤ length t
   unfolding sound
   sound-long = leb-true _ _ (and-left _ _ s)
 
-  after-long : (headerOk (decodeTable t .header) && (eqb (length t) (32 + size * slots (decodeTable t)) && (slotsOk (decodeTable t) && (addressesOk (decodeTable t) && countsOk (decodeTable t))))) ≡ true
+  after-long : (headerOk (decodeTable t .header) && (eqb (length t) (recordAt (widthOf t) (slots (decodeTable t))) && (slotsOk (decodeTable t) && (addressesOk (decodeTable t) && countsOk (decodeTable t))))) ≡ true
   unfolding sound
   after-long = and-right (leb 32 (length t)) _ s
 
   pub sound-header : headerOk (decodeTable t .header) ≡ true
   sound-header = and-left _ _ after-long
 
-  after-header : (eqb (length t) (32 + size * slots (decodeTable t)) && (slotsOk (decodeTable t) && (addressesOk (decodeTable t) && countsOk (decodeTable t)))) ≡ true
+  after-header : (eqb (length t) (recordAt (widthOf t) (slots (decodeTable t))) && (slotsOk (decodeTable t) && (addressesOk (decodeTable t) && countsOk (decodeTable t)))) ≡ true
   after-header = and-right (headerOk (decodeTable t .header)) _ after-long
 
-  pub sound-whole : length t ≡ 32 + size * slots (decodeTable t)
+  pub sound-whole : length t ≡ recordAt (widthOf t) (slots (decodeTable t))
   sound-whole = eqb-true _ _ (and-left _ _ after-header)
 
   after-whole : (slotsOk (decodeTable t) && (addressesOk (decodeTable t) && countsOk (decodeTable t))) ≡ true
-  after-whole = and-right (eqb (length t) (32 + size * slots (decodeTable t))) _ after-header
+  after-whole = and-right (eqb (length t) (recordAt (widthOf t) (slots (decodeTable t)))) _ after-header
 
   pub sound-slots : slotsOk (decodeTable t) ≡ true
   sound-slots = and-left _ _ after-whole
@@ -78,7 +86,7 @@ module _ (t : List ℕ) (s : sound t ≡ true) where
   sound-counts = and-right (addressesOk (decodeTable t)) _ after-slots
 
   pub sound-small : slots (decodeTable t) ≤ 64
-  sound-small = header-form (decodeTable t .header) sound-header .geometry .few
+  sound-small = slots-few (decodeTable t .header) sound-header
 
   -- A RECORD OF A SOUND TABLE has its form
   pub sound-peer : (k : ℕ) → k < slots (decodeTable t) → peerOk (decodeTable t .header .own) (groupsOf (decodeTable t .header)) (highSync (decodeTable t .header)) (slot (decodeTable t) k) ≡ true
@@ -87,7 +95,7 @@ module _ (t : List ℕ) (s : sound t ≡ true) where
 
   pub ready : (k : ℕ) → k < slots (decodeTable t) → Ready t k
   ready k h = record {
-    fits = omega (arith, sound-whole);
+    fits = omega (arith, record-below (widthOf t) k (slots (decodeTable t)) h, sound-whole);
     whole = sound-whole;
     below = h;
     small = sound-small;
@@ -95,7 +103,7 @@ module _ (t : List ℕ) (s : sound t ≡ true) where
   }
 
 -- soundness from its parts
-pub sound-of : (t : List ℕ) → 32 ≤ length t → headerOk (decodeTable t .header) ≡ true → length t ≡ 32 + size * slots (decodeTable t)
+pub sound-of : (t : List ℕ) → 32 ≤ length t → headerOk (decodeTable t .header) ≡ true → length t ≡ recordAt (widthOf t) (slots (decodeTable t))
     → slotsOk (decodeTable t) ≡ true → addressesOk (decodeTable t) ≡ true → countsOk (decodeTable t) ≡ true → sound t ≡ true
 unfolding sound
 sound-of t a b d e f g = and-both _ _ (le-leb _ _ a) (and-both _ _ b (and-both _ _ (eq-eqb _ _ d) (and-both _ _ e (and-both _ _ f g))))
@@ -116,11 +124,11 @@ not-header : (t : List ℕ) → headerOk (decodeTable t .header) ≡ false → f
 unfolding sound
 not-header t e = no-right (leb 32 (length t)) _ (no-left _ _ e)
 
-not-whole : (t : List ℕ) → (length t ≡ 32 + size * slots (decodeTable t) → ⊥) → false ≡ sound t
+not-whole : (t : List ℕ) → (length t ≡ recordAt (widthOf t) (slots (decodeTable t)) → ⊥) → false ≡ sound t
 unfolding sound
 not-whole t d = no-right (leb 32 (length t)) _ (no-right (headerOk (decodeTable t .header)) _ (no-left _ _ (ne-eqb _ _ d)))
 
-body-sound : (t : List ℕ) → 32 ≤ length t → headerOk (decodeTable t .header) ≡ true → length t ≡ 32 + size * slots (decodeTable t)
+body-sound : (t : List ℕ) → 32 ≤ length t → headerOk (decodeTable t .header) ≡ true → length t ≡ recordAt (widthOf t) (slots (decodeTable t))
     → (slotsOk (decodeTable t) && (addressesOk (decodeTable t) && countsOk (decodeTable t))) ≡ sound t
 unfolding sound
 body-sound t a b d = rw (le-leb _ _ a, b, eq-eqb _ _ d)
@@ -130,21 +138,33 @@ module _ (t : List ℕ) (h : Header) (e : h ≡ decodeTable t .header) where
   pub not-header-by : (ok : Bool) → ok ≡ headerOk h → not ok ≡ true → false ≡ sound t
   not-header-by ok p q = not-header t (ap headerOk (sym e) ∙ sym p ∙ not-true ok q)
 
-  pub not-whole-by : (length t ≡ 32 + size * h .geometry .slots → ⊥) → false ≡ sound t
-  not-whole-by d = not-whole t (λ q. d (q ∙ ap (λ (g : Header). 32 + size * g .geometry .slots) (sym e)))
+  -- what the header's width and slots come to, worked out from the header handed on
+  by-header : (w n : ℕ) → w ≡ widthIn h → n ≡ recordAt w (h .geometry .slots) → n ≡ recordAt (widthOf t) (slots (decodeTable t))
+  unfolding decodeTable
+  by-header w n ew q = q ∙ ap (λ (x : ℕ). recordAt x (h .geometry .slots)) ew ∙ ap (λ (g : Header). recordAt (widthIn g) (g .geometry .slots)) e
 
-  pub whole-by : (ok : Bool) → ok ≡ headerOk h → not ok ≡ false → length t ≡ 32 + size * h .geometry .slots → Whole t h (h .geometry .slots)
-  whole-by ok p q w =
-      let f = header-form h (sym p ∙ not-false ok q) in
-      let s = settings-form (h .settings) (f .settings) in
-      let g = groups-form (h .settings .count) (h .settings .groups) (s .groups) in
-      record { long = omega (arith, w); header = e; slots = ap (λ (g : Header). g .geometry .slots) e; few = f .geometry .few; some = g .some; most = omega (arith, g .few); low = factory-low (s .limit) }
+  pub not-whole-by : (w n : ℕ) → w ≡ widthIn h → n ≡ recordAt w (h .geometry .slots) → (length t ≡ n → ⊥) → false ≡ sound t
+  not-whole-by w n ew q d = not-whole t (λ x. d (x ∙ sym (by-header w n ew q)))
 
-  pub body-by : (ok r : Bool) → 32 ≤ length t → ok ≡ headerOk h → not ok ≡ false → length t ≡ 32 + size * h .geometry .slots
+  pub whole-by : (ok : Bool) (w n : ℕ) → ok ≡ headerOk h → not ok ≡ false → w ≡ widthIn h → n ≡ recordAt w (h .geometry .slots) → length t ≡ n → Whole t h (h .geometry .slots)
+  whole-by ok w n p q ew en l =
+      let y : headerOk h ≡ true = sym p ∙ not-false ok q in
+      let s = settings-form _ (h .settings) (header-form h y .settings) in
+      let g = header-groups h y in
+      let c : h .geometry .slots ≡ slots (decodeTable t) = ap (λ (g : Header). g .geometry .slots) e in
+      record {
+        long = rw c (omega (arith, l, by-header w n ew en));
+        header = e;
+        slots = c;
+        few = slots-few h y;
+        some = g .some;
+        most = omega (arith, g .few);
+        low = factory-low (s .limit);
+      }
+
+  pub body-by : (ok r : Bool) (w n : ℕ) → 32 ≤ length t → ok ≡ headerOk h → not ok ≡ false → w ≡ widthIn h → n ≡ recordAt w (h .geometry .slots) → length t ≡ n
       → r ≡ (slotsOk (decodeTable t) && (addressesOk (decodeTable t) && countsOk (decodeTable t))) → r ≡ sound t
-  body-by ok r l p q w er =
-      let g : h .geometry .slots ≡ slots (decodeTable t) = ap (λ (g : Header). g .geometry .slots) e in
-      er ∙ body-sound t l (ap headerOk (sym e) ∙ sym p ∙ not-false ok q) (w ∙ ap (λ (n : ℕ). 32 + size * n) g)
+  body-by ok r w n l p q ew en k er = er ∙ body-sound t l (ap headerOk (sym e) ∙ sym p ∙ not-false ok q) (k ∙ by-header w n ew en)
 
 -- ---- fewer than two records in use have no address twice
 
@@ -275,10 +295,15 @@ module _ (T : Table) (k : ℕ) (p : Peer) where
   unfolding openCount withPeer
   open-stored h l = count-stored isOpen h l
 
--- the number of records that the octets hold
-pub peers-held : (t : List ℕ) (n : ℕ) → length t ≡ 32 + size * n → length (decodeTable t .peers) ≡ n
+-- the width that a header's form has is the table's
+pub width-told : (t : List ℕ) (h : Header) (w : ℕ) → h ≡ decodeTable t .header → w ≡ widthIn h → w ≡ widthOf t
 unfolding decodeTable
-peers-held t n h = let q : (length t - 32) / size ≡ n = omega arith in length-peers _ _ ∙ q
+width-told t h w e q = q ∙ ap widthIn e
+
+-- the number of records that the octets hold
+pub peers-held : (t : List ℕ) (n : ℕ) → length t ≡ recordAt (widthOf t) n → length (decodeTable t .peers) ≡ n
+unfolding decodeTable
+peers-held t n h = length-peers (widthOf t) _ _ ∙ many (widthOf t) n (length t) h
 
 -- what `standing_of` shows
 pub standing-law : (T : Table) (k : ℕ) (u r : Bool) → u ≡ inUse (slot T k) → r ≡ isOpen (slot T k) → _≡_ {A = Standing} (record { used = u; opened = r }) (standingOf (slot T k))
@@ -299,9 +324,16 @@ share f n k x was h l e = let w = count-has f n k h in (omega (arith, w .0), ome
 balance : (r x u : ℕ) (was is : Bool) → r + bit was ≡ x + bit is → x + bit is ≡ u + bit was → r ≡ u
 balance r x u was is p q = omega arith
 
+slot-below : (W k n : ℕ) → recordAt W k + recordSize W ≤ recordAt W n → k < n
+slot-below W k n h = elim (decLt k n) [ yes l ↦ l | no l ↦ absurd (go l (ℕ-discrete k n)) ]
+  where
+    go : (k < n → ⊥) → Dec (k ≡ n) → ⊥
+    go l (yes e) = let z : recordAt W k ≡ recordAt W n = ap (recordAt W) e in omega (arith, z, h)
+    go l (no d) = let m : n < k = omega (arith, l, d) in omega (arith, h, record-below W n k m)
+
 module _ (t : List ℕ) (k : ℕ) (h : Header) (was : Standing) (C : Changed t k h was) where
   below : k < slots (decodeTable t)
-  below = omega (arith, C .fits, C .whole)
+  below = slot-below (widthOf t) k (slots (decodeTable t)) (omega (arith, C .fits, C .whole))
 
   used-now : h .counts .used + bit (inUse (slot (decodeTable t) k)) ≡ usedCount (decodeTable t) + bit (was .used)
   used-now = ap (λ (g : Header). g .counts .used + bit (inUse (slot (decodeTable t) k))) (C .header) ∙ C .used
@@ -323,12 +355,46 @@ module _ (t : List ℕ) (k : ℕ) (h : Header) (was : Standing) (C : Changed t k
   pub after-open : (is : Bool) (r : ℕ) → is ≡ isOpen (slot (decodeTable t) k) → r + bit (was .opened) ≡ h .counts .opened + bit is → r ≡ openCount (decodeTable t)
   after-open is r q w = balance r (h .counts .opened) _ (was .opened) is w (ap (λ (b : Bool). h .counts .opened + bit b) q ∙ open-now)
 
+-- the slot of a changed record, with the width of the header handed on
+pub changed-reached : (t : List ℕ) (k : ℕ) (h : Header) (was : Standing) (w : ℕ) → Changed t k h was → w ≡ widthIn h → w ≤ width → Reached t w k
+changed-reached t k h was w C e m =
+    let z : w ≡ widthOf t = width-told t h w (C .header) e in
+    record { told = z; most = m; long = subst (λ (W : ℕ). recordAt W k + recordSize W ≤ length t) (sym z) (C .fits) }
+
 pub after-law : (T : Table) (u o : ℕ) → u ≡ usedCount T → o ≡ openCount T → _≡_ {A = Counts} (record { used = u; opened = o; spare = 0 }) (countsOf T)
 after-law T u o eu eo = λ i. record { used = eu i; opened = eo i; spare = 0 }
 
 -- what `slots_of` shows
-pub slots-law : (t : List ℕ) (h : Header) → sound t ≡ true → h ≡ decodeTable t .header → (h .geometry .slots ≡ slots (decodeTable t)) × (32 + size * h .geometry .slots ≡ length t)
+pub slots-law : (t : List ℕ) (h : Header) → sound t ≡ true → h ≡ decodeTable t .header → (h .geometry .slots ≡ slots (decodeTable t)) × (recordAt (widthOf t) (h .geometry .slots) ≡ length t)
 slots-law t h s e = let g : h .geometry .slots ≡ slots (decodeTable t) = ap (λ (g : Header). g .geometry .slots) e in (g, rw g (sym (sound-whole t s)))
+
+-- where the slots of any header end: a number of 32 bits
+pub record-bound : (W n : ℕ) → W ≤ width → n < 65536 → recordAt W n < 2 ^ 32
+unfolding recordAt
+record-bound W n h l =
+    let a : recordSize W ≤ 1080 = omega arith in
+    let b : n ≤ 65536 = omega arith in
+    let p : recordSize W * n ≤ 1080 * 65536 = mul-le-mul a b in
+    omega (arith, p)
+
+-- the slots below n, and each of them
+pub whole-reaches : (t : List ℕ) (h : Header) (n w : ℕ) → Whole t h n → w ≡ widthIn h → w ≤ width → Reaches t w n
+whole-reaches t h n w O e m =
+    let z : w ≡ widthOf t = width-told t h w (O .header) e in
+    record { told = z; most = m; long = subst (λ (W : ℕ). recordAt W n ≤ length t) (sym z) (O .long) }
+
+pub reach : (t : List ℕ) (w n k : ℕ) → Reaches t w n → k < n → Reached t w k
+reach t w n k R h = record { told = R .told; most = R .most; long = omega (arith, record-below w k n h, R .long) }
+
+pub sized : (t : List ℕ) (h : Header) (w : ℕ) → sound t ≡ true → h ≡ decodeTable t .header → w ≡ widthIn h → w ≤ width → Sized t w (h .geometry .slots)
+sized t h w s e q m =
+    let v = slots-law t h s e in
+    let z : w ≡ widthOf t = width-told t h w e q in
+    record { number = v .0; reaches = record { told = z; most = m; long = subst (λ (W : ℕ). recordAt W (h .geometry .slots) ≤ length t) (sym z) (omega (arith, v .1)) } }
+
+-- a slot of a sound table
+pub reached : (t : List ℕ) (h : Header) (w k : ℕ) → sound t ≡ true → h ≡ decodeTable t .header → w ≡ widthIn h → w ≤ width → k < slots (decodeTable t) → Reached t w k
+reached t h w k s e q m l = let z = sized t h w s e q m in reach t w (h .geometry .slots) k (z .reaches) (rw (z .number) l)
 
 -- from a negated test
 pub sound-by : (t : List ℕ) (b : Bool) → b ≡ sound t → not b ≡ false → sound t ≡ true
@@ -365,8 +431,8 @@ module _ (t : List ℕ) (whole : Bool) (h : Header) (L : Looked t whole h) where
   pub looked-own : not whole ≡ false → h .own ≡ decodeTable t .header .own
   looked-own q = ap (λ (g : Header). g .own) (looked-header q)
 
-  pub looked-sized : not whole ≡ false → Sized t (h .geometry .slots)
-  looked-sized q = let w = slots-law t h (looked-sound q) (looked-header q) in record { number = w .0; long = omega (arith, w .1) }
+  pub looked-sized : (w : ℕ) → not whole ≡ false → w ≡ widthIn h → w ≤ width → Sized t w (h .geometry .slots)
+  looked-sized w q e m = sized t h w (looked-sound q) (looked-header q) e m
 
 -- what the test came to
 pub looked-unsound : (t : List ℕ) (h : Header) (b : Bool) → b ≡ sound t → not b ≡ true → Looked t false h

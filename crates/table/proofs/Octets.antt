@@ -1,25 +1,58 @@
 -- The table's octets and the table as a value: the round trips, and a record stored.
-use mathlib.Core.Path.{_≡_, refl, sym, ap, _∙_}
+use mathlib.Core.Path.{_≡_, refl, sym, ap, _∙_, subst}
 use mathlib.Core.Logic.{_⊎_, inl, inr}
 use mathlib.Core.List.{List, [], _∷_, _++_, append-assoc}
 use Prim.Native.Nat.{ℕ, zero, suc, _+_, _-_, _*_, _/_, _≤_, _<_}
 use native.Mathlib.Omega.{arith}
+use native.Mathlib.Nat.{mul-suc, mul-zero, mul-comm, le-div-iff-mul-le, mul-div-cancel-left}
 use lib.Dec.{lit≤}
 use lib.ListN.{length, take, drop, getD, set, length-append, length-drop, take-append-drop}
 use lib.Seq.{length-take-le, take-at, drop-at, take-add, drop-drop}
 use Rattle.octets.specs.Octets.{part, put, num, oct, Bytes}
-use Rattle.octets.proofs.Laws.{bytes-part, bytes-drop, bytes-append, part-part, length-put, length-oct, oct-part, put-part, part-put-before, part-put-after}
+use Rattle.octets.proofs.Laws.{bytes-part, bytes-drop, bytes-append, part-part, length-part, length-put, length-oct, oct-part, put-part, part-put-before, part-put-after}
 use Rattle.groups.specs.Groups.{width}
 use Rattle.record.specs.declared.Counts.{Counts}
-use Rattle.record.specs.Layout.{encodePeer, decodePeer, decodeRun, runOf, runWidths, encodeHeader, decodeHeader, headerOf, headerWidths, counted, noPeer, runSize}
+use Rattle.record.specs.Layout.{encodePeer, decodePeer, encodeHeader, decodeHeader, headerOf, headerWidths, counted, widthIn, recordSize, recordAt, noPeer}
 use Rattle.record.specs.Codec.{cut}
+use Rattle.record.specs.declared.Header.{Header}
 use Rattle.record.specs.declared.Peer.{Peer}
-use Rattle.record.proofs.Laws.{enc-dec-peer, dec-enc-peer, ShapePeer, FitPeer, shape-peer, length-peer, bytes-peer, peer-at, enc-dec-header, dec-enc-header, length-header, bytes-header, header-front, counted-put, num-part, FitHeader}
-use Rattle.table.specs.Table.{Table, size, peersOf, octetsOf, decodeTable, encodeTable, slot, recounted, withPeer, placed, usedCount, openCount, countsOf}
+use Rattle.record.proofs.Laws.{enc-dec-peer, dec-enc-peer, ShapePeer, FitPeer, StorablePeer, shape-peer, length-peer, bytes-peer, peer-at, enc-dec-header, dec-enc-header, length-header, bytes-header, header-front, counted-put, num-part, FitHeader, form-width, record-first, record-below}
+use Rattle.record.proofs.Windows.{state-law, address-law}
+use Rattle.table.specs.Table.{Table, peersOf, octetsOf, widthOf, decodeTable, encodeTable, slot, recounted, withPeer, placed, usedCount, openCount, countsOf, Reached}
 
 -- the record that lies in a slot's octets
-unfoldable pub recordAt : List ℕ → ℕ → Peer
-recordAt t k = decodePeer width (part t (32 + size * k) size)
+unfoldable pub recordIn : ℕ → List ℕ → ℕ → Peer
+recordIn W t k = decodePeer W (part t (recordAt W k) (recordSize W))
+
+-- ---- products with the record size
+
+pub next : (S k : ℕ) → S + S * k ≡ S * suc k
+next S k = omega (arith, mul-suc S k)
+
+-- as many records as a length has room for
+pub many : (W n l : ℕ) → l ≡ recordAt W n → (l - 32) / recordSize W ≡ n
+unfolding recordAt
+many W n l e = let q : l - 32 ≡ recordSize W * n = omega arith in ap (λ (x : ℕ). x / recordSize W) q ∙ mul-div-cancel-left n (omega arith)
+
+below : (W k l : ℕ) → recordAt W k + recordSize W ≤ l → k < (l - 32) / recordSize W
+unfolding recordAt
+below W k l h =
+    let p : suc k * recordSize W ≡ recordSize W * k + recordSize W = mul-comm (suc k) (recordSize W) ∙ mul-suc (recordSize W) k in
+    let z : 0 < recordSize W = omega arith in
+    let q : suc k * recordSize W ≤ l - 32 = omega (arith, p, h) in
+    le-div-iff-mul-le z .1 q
+
+-- a record begins behind the header
+pub after-header : (W k : ℕ) → 32 ≤ recordAt W k
+unfolding recordAt
+after-header W k = omega arith
+
+behind : (W k : ℕ) → 32 + recordSize W * k ≡ recordAt W k
+unfolding recordAt
+behind W k = refl
+
+pub width-fits : (t : List ℕ) → widthOf t ≤ width
+width-fits t = form-width _
 
 -- ---- octets split at a seam
 
@@ -37,98 +70,95 @@ put-front s v n e = let q : 0 + length v ≡ n = omega arith in ap (λ (k : ℕ)
 
 -- ---- records
 
-record-of : (s : List ℕ) → Bytes s → size ≤ length s → encodePeer (decodePeer width (take size s)) ≡ take size s
-unfolding part
-record-of s b h = enc-dec-peer width (take size s) (bytes-part s 0 size b) (length-take-le size s h)
+module _ (W : ℕ) where
+  record-of : (s : List ℕ) → Bytes s → recordSize W ≤ length s → encodePeer W (decodePeer W (take (recordSize W) s)) ≡ take (recordSize W) s
+  unfolding part
+  record-of s b h = enc-dec-peer W (take (recordSize W) s) (bytes-part s 0 (recordSize W) b) (length-take-le (recordSize W) s h)
 
-octets-of-peers : (n : ℕ) (s : List ℕ) → Bytes s → length s ≡ size * n → octetsOf (peersOf n s) ≡ s
-unfolding octetsOf peersOf
-octets-of-peers zero [] b h = refl
-octets-of-peers zero (x ∷ s) b h = absurd (omega arith)
-octets-of-peers (suc n) s b h =
-    let l : length (drop size s) ≡ size * n = length-drop size s ∙ omega arith in
-    rw (record-of s b (omega arith), octets-of-peers n (drop size s) (bytes-drop size s b) l) (take-append-drop size s)
+  octets-of-peers : (n : ℕ) (s : List ℕ) → Bytes s → length s ≡ recordSize W * n → octetsOf W (peersOf W n s) ≡ s
+  unfolding octetsOf peersOf
+  octets-of-peers zero [] b h = refl
+  octets-of-peers zero (x ∷ s) b h = absurd (omega (arith, h, mul-zero (recordSize W)))
+  octets-of-peers (suc n) s b h =
+      let l : length (drop (recordSize W) s) ≡ recordSize W * n = length-drop (recordSize W) s ∙ omega (arith, h, next (recordSize W) n) in
+      rw (record-of s b (omega (arith, h, next (recordSize W) n)), octets-of-peers n (drop (recordSize W) s) (bytes-drop (recordSize W) s b) l) (take-append-drop (recordSize W) s)
 
--- a record set is its octets put
-set-octets : (n k : ℕ) (s : List ℕ) (p : Peer) → Bytes s → length s ≡ size * n → k < n → length (encodePeer p) ≡ size
-    → octetsOf (set (peersOf n s) k p) ≡ put s (size * k) (encodePeer p)
-unfolding octetsOf peersOf
-set-octets zero k s p b h l e = absurd (omega arith)
-set-octets (suc n) zero s p b h l e =
-    let m : length (drop size s) ≡ size * n = length-drop size s ∙ omega arith in
-    rw (octets-of-peers n (drop size s) (bytes-drop size s b) m) (sym (put-front s (encodePeer p) size e))
-set-octets (suc n) (suc k) s p b h l e =
-    let m : length (drop size s) ≡ size * n = length-drop size s ∙ omega arith in
-    let q : size + size * k ≡ size * suc k = omega arith in
-    rw (record-of s b (omega arith), set-octets n k (drop size s) p (bytes-drop size s b) m (omega arith) e)
-    (put-after size (size * k) s (encodePeer p) ∙ ap (λ (a : ℕ). put s a (encodePeer p)) q)
+  -- a record set is its octets put
+  set-octets : (n k : ℕ) (s : List ℕ) (p : Peer) → Bytes s → length s ≡ recordSize W * n → k < n → length (encodePeer W p) ≡ recordSize W
+      → octetsOf W (set (peersOf W n s) k p) ≡ put s (recordSize W * k) (encodePeer W p)
+  unfolding octetsOf peersOf
+  set-octets zero k s p b h l e = absurd (omega arith)
+  set-octets (suc n) zero s p b h l e =
+      let m : length (drop (recordSize W) s) ≡ recordSize W * n = length-drop (recordSize W) s ∙ omega (arith, h, next (recordSize W) n) in
+      rw (octets-of-peers n (drop (recordSize W) s) (bytes-drop (recordSize W) s b) m, mul-zero (recordSize W)) (sym (put-front s (encodePeer W p) (recordSize W) e))
+  set-octets (suc n) (suc k) s p b h l e =
+      let m : length (drop (recordSize W) s) ≡ recordSize W * n = length-drop (recordSize W) s ∙ omega (arith, h, next (recordSize W) n) in
+      rw (record-of s b (omega (arith, h, next (recordSize W) n)), set-octets n k (drop (recordSize W) s) p (bytes-drop (recordSize W) s b) m (omega arith) e)
+      (put-after (recordSize W) (recordSize W * k) s (encodePeer W p) ∙ ap (λ (a : ℕ). put s a (encodePeer W p)) (next (recordSize W) k))
 
-peer-of : (n k : ℕ) (s : List ℕ) → k < n → getD (peersOf n s) k noPeer ≡ decodePeer width (take size (drop (size * k) s))
-unfolding peersOf
-peer-of zero k s h = absurd (omega arith)
-peer-of (suc n) zero s h = refl
-peer-of (suc n) (suc k) s h =
-    let q : size + size * k ≡ size * suc k = omega arith in
-    peer-of n k (drop size s) (omega arith) ∙ ap (λ (l : List ℕ). decodePeer width (take size l)) (drop-drop (size * k) size s ∙ ap (λ (a : ℕ). drop a s) q)
+  peer-of : (n k : ℕ) (s : List ℕ) → k < n → getD (peersOf W n s) k noPeer ≡ decodePeer W (take (recordSize W) (drop (recordSize W * k) s))
+  unfolding peersOf
+  peer-of zero k s h = absurd (omega arith)
+  peer-of (suc n) zero s h = rw (mul-zero (recordSize W)) refl
+  peer-of (suc n) (suc k) s h =
+      peer-of n k (drop (recordSize W) s) (omega arith)
+      ∙ ap (λ (l : List ℕ). decodePeer W (take (recordSize W) l)) (drop-drop (recordSize W * k) (recordSize W) s ∙ ap (λ (a : ℕ). drop a s) (next (recordSize W) k))
 
-pub length-peers : (n : ℕ) (s : List ℕ) → length (peersOf n s) ≡ n
-unfolding peersOf
-length-peers zero s = refl
-length-peers (suc n) s = ap suc (length-peers n (drop size s))
+  pub length-peers : (n : ℕ) (s : List ℕ) → length (peersOf W n s) ≡ n
+  unfolding peersOf
+  length-peers zero s = refl
+  length-peers (suc n) s = ap suc (length-peers n (drop (recordSize W) s))
 
 -- ---- the table
 
--- THE ROUND TRIP: octets of a table's length are those of their table
-pub encode-decode : (t : List ℕ) (n : ℕ) → Bytes t → length t ≡ 32 + size * n → encodeTable (decodeTable t) ≡ t
+-- THE ROUND TRIP: octets of a table's length are those of their table, with whatever width
+pub encode-decode : (t : List ℕ) (n : ℕ) → Bytes t → length t ≡ recordAt (widthOf t) n → encodeTable (decodeTable t) ≡ t
 unfolding encodeTable decodeTable
 encode-decode t n b h =
-    let q : (length t - 32) / size ≡ n = omega arith in
-    let l : length (drop 32 t) ≡ size * n = length-drop 32 t ∙ omega arith in
-    rw (q, enc-dec-header t b (omega arith), octets-of-peers n (drop 32 t) (bytes-drop 32 t b) l) (take-append-drop 32 t)
+    let q : (length t - 32) / recordSize (widthOf t) ≡ n = many (widthOf t) n (length t) h in
+    let l : length (drop 32 t) ≡ recordSize (widthOf t) * n = length-drop 32 t ∙ omega (arith, h, behind (widthOf t) n) in
+    rw (q, enc-dec-header t b (omega (arith, h, after-header (widthOf t) n)), octets-of-peers (widthOf t) n (drop 32 t) (bytes-drop 32 t b) l) (take-append-drop 32 t)
 
 -- the record of a slot is that of its octets
-pub slot-at : (t : List ℕ) (k : ℕ) → 32 + size * k + size ≤ length t → slot (decodeTable t) k ≡ recordAt t k
-unfolding slot decodeTable recordAt part
+pub slot-at : (t : List ℕ) (k : ℕ) → recordAt (widthOf t) k + recordSize (widthOf t) ≤ length t → slot (decodeTable t) k ≡ recordIn (widthOf t) t k
+unfolding slot decodeTable recordIn part
 slot-at t k h =
-    peer-of ((length t - 32) / size) k (drop 32 t) (omega arith) ∙ ap (λ (l : List ℕ). decodePeer width (take size l)) (drop-drop (size * k) 32 t)
+    peer-of (widthOf t) ((length t - 32) / recordSize (widthOf t)) k (drop 32 t) (below (widthOf t) k (length t) h)
+    ∙ ap (λ (l : List ℕ). decodePeer (widthOf t) (take (recordSize (widthOf t)) l)) (drop-drop (recordSize (widthOf t) * k) 32 t ∙ ap (λ (a : ℕ). drop a t) (behind (widthOf t) k))
 
-part-of : (t : List ℕ) (k b n a : ℕ) → b + n ≤ size → 32 + size * k + b ≡ a → part (part t (32 + size * k) size) b n ≡ part t a n
-part-of t k b n a h e = part-part t (32 + size * k) size b n h ∙ ap (λ (x : ℕ). part t x n) e
+module _ (W : ℕ) (t : List ℕ) (k : ℕ) where
+  part-of : (b n : ℕ) → b + n ≤ recordSize W → part (part t (recordAt W k) (recordSize W)) b n ≡ part t (recordAt W k + b) n
+  part-of b n h = part-part t (recordAt W k) (recordSize W) b n h
 
-pub used-of : (t : List ℕ) (k : ℕ) → recordAt t k .used ≡ num (part t (32 + size * k) 1)
-unfolding recordAt
-used-of t k = ap (λ (p : Peer). p .used) (peer-at width (part t (32 + size * k) size)) ∙ ap num (part-of t k 0 1 (32 + size * k) (lit≤ tt) (omega arith))
+  used-of : recordIn W t k .used ≡ num (part t (recordAt W k + 0) 1)
+  unfolding recordIn
+  used-of = ap (λ (p : Peer). p .used) (peer-at W (part t (recordAt W k) (recordSize W))) ∙ ap num (part-of 0 1 (omega arith))
 
-pub address-of : (t : List ℕ) (k : ℕ) → recordAt t k .address ≡ part t (33 + size * k) 6
-unfolding recordAt
-address-of t k = ap (λ (p : Peer). p .address) (peer-at width (part t (32 + size * k) size)) ∙ part-of t k 1 6 (33 + size * k) (lit≤ tt) (omega arith)
+  address-of : recordIn W t k .address ≡ part t (recordAt W k + 1) 6
+  unfolding recordIn
+  address-of = address-law W (part t (recordAt W k) (recordSize W)) ∙ part-of 1 6 (omega arith)
 
-run-state : (s : List ℕ) → decodeRun width s .state ≡ num (part s 0 1)
-unfolding decodeRun runOf runWidths cut
-run-state s = refl
-
-pub state-of : (t : List ℕ) (k : ℕ) → recordAt t k .run .state ≡ num (part t (39 + size * k) 1)
-unfolding recordAt
-state-of t k =
-    ap (λ (p : Peer). p .run .state) (peer-at width (part t (32 + size * k) size)) ∙ run-state _
-    ∙ ap num (part-part (part t (32 + size * k) size) 7 (runSize width) 0 1 (lit≤ tt) ∙ part-of t k 7 1 (39 + size * k) (lit≤ tt) (omega arith))
+  state-of : recordIn W t k .run .state ≡ num (part t (recordAt W k + 7) 1)
+  unfolding recordIn
+  state-of = state-law W (part t (recordAt W k) (recordSize W)) ∙ ap num (part-of 7 1 (omega arith))
 
 -- STORING A RECORD is `set` on the list of records, and its octets put in the slot's place
-pub with-peer-octets : (t : List ℕ) (n k : ℕ) (p : Peer) → Bytes t → length t ≡ 32 + size * n → k < n → ShapePeer width p
-    → encodeTable (withPeer (decodeTable t) k p) ≡ put t (32 + size * k) (encodePeer p)
+pub with-peer-octets : (t : List ℕ) (n k : ℕ) (p : Peer) → Bytes t → length t ≡ recordAt (widthOf t) n → k < n → ShapePeer width p
+    → encodeTable (withPeer (decodeTable t) k p) ≡ put t (recordAt (widthOf t) k) (encodePeer (widthOf t) p)
 unfolding encodeTable withPeer decodeTable
 with-peer-octets t n k p b h l f =
-    let q : (length t - 32) / size ≡ n = omega arith in
-    let m : length (drop 32 t) ≡ size * n = length-drop 32 t ∙ omega arith in
-    rw (q, enc-dec-header t b (omega arith), set-octets n k (drop 32 t) p (bytes-drop 32 t b) m l (length-peer width p f)) (put-after 32 (size * k) t (encodePeer p))
+    let q : (length t - 32) / recordSize (widthOf t) ≡ n = many (widthOf t) n (length t) h in
+    let m : length (drop 32 t) ≡ recordSize (widthOf t) * n = length-drop 32 t ∙ omega (arith, h, behind (widthOf t) n) in
+    rw (q, enc-dec-header t b (omega (arith, h, after-header (widthOf t) n)), set-octets (widthOf t) n k (drop 32 t) p (bytes-drop 32 t b) m l (length-peer (widthOf t) p (width-fits t) f))
+    (put-after 32 (recordSize (widthOf t) * k) t (encodePeer (widthOf t) p) ∙ ap (λ (a : ℕ). put t a (encodePeer (widthOf t) p)) (behind (widthOf t) k))
 
 counts-put : (T : Table) (n : Counts)
     → put (put (encodeTable T) 2 (oct 2 (n .used) ++ oct 2 (n .opened))) 12 (oct 2 (n .spare)) ≡ encodeTable (record { header = counted (T .header) n; peers = T .peers })
 unfolding encodeTable
-counts-put T n = counted-put (T .header) (octetsOf (T .peers)) n
+counts-put T n = counted-put (T .header) (octetsOf (widthIn (T .header)) (T .peers)) n
 
 -- what `recount` shows
-pub recount-law : (t v : List ℕ) (m : ℕ) (n : Counts) → Bytes t → length t ≡ 32 + size * m
+pub recount-law : (t v : List ℕ) (m : ℕ) (n : Counts) → Bytes t → length t ≡ recordAt (widthOf t) m
     → v ≡ put (put t 2 (oct 2 (n .used) ++ oct 2 (n .opened))) 12 (oct 2 (n .spare)) → n ≡ countsOf (decodeTable t) → v ≡ encodeTable (recounted (decodeTable t))
 unfolding recounted
 recount-law t v m n b h e en =
@@ -141,135 +171,139 @@ unfolding decodeTable decodeHeader headerOf headerWidths cut
 third-zero t b h z = sym (ap (oct 2) (sym z) ∙ oct-part t 12 2 b (omega arith))
 
 -- A RECORD PLACED, with its counts, is two puts
-pub placed-octets : (t : List ℕ) (n k : ℕ) (p : Peer) → Bytes t → length t ≡ 32 + size * n → k < n → ShapePeer width p → decodeTable t .header .counts .spare ≡ 0
-    → encodeTable (placed (decodeTable t) k p) ≡
-    put (put t (32 + size * k) (encodePeer p)) 2 (oct 2 (usedCount (withPeer (decodeTable t) k p)) ++ oct 2 (openCount (withPeer (decodeTable t) k p)))
-unfolding placed recounted
-placed-octets t n k p b h l f z =
-    sym (counts-put (withPeer (decodeTable t) k p) (countsOf (withPeer (decodeTable t) k p)))
-    ∙ ap (λ (x : List ℕ). put (put x 2 v) 12 (oct 2 0)) (with-peer-octets t n k p b h l f) ∙ ap (put (put s 2 v) 12) (sym third) ∙ put-part (put s 2 v) 12 2 (omega (arith, lv, ls))
-  where
-    s : List ℕ
-    s = put t (32 + size * k) (encodePeer p)
+module _ (t : List ℕ) (n k : ℕ) (p : Peer) (b : Bytes t) (h : length t ≡ recordAt (widthOf t) n) (l : k < n) (f : ShapePeer width p) (z : decodeTable t .header .counts .spare ≡ 0) where
+  abbrev four : List ℕ
+  four = oct 2 (usedCount (withPeer (decodeTable t) k p)) ++ oct 2 (openCount (withPeer (decodeTable t) k p))
 
-    v : List ℕ
-    v = oct 2 (usedCount (withPeer (decodeTable t) k p)) ++ oct 2 (openCount (withPeer (decodeTable t) k p))
+  abbrev stored-in : List ℕ
+  stored-in = put t (recordAt (widthOf t) k) (encodePeer (widthOf t) p)
 
-    lp : length (encodePeer p) ≡ size
-    lp = length-peer width p f
+  length-record : length (encodePeer (widthOf t) p) ≡ recordSize (widthOf t)
+  length-record = length-peer (widthOf t) p (width-fits t) f
 
-    ls : length s ≡ length t
-    ls = length-put t (32 + size * k) (encodePeer p) (omega (arith, lp))
+  inside : recordAt (widthOf t) k + recordSize (widthOf t) ≤ length t
+  inside = omega (arith, record-below (widthOf t) k n l, h)
 
-    l4 : length v ≡ 4
-    l4 = length-append (oct 2 (usedCount (withPeer (decodeTable t) k p))) (oct 2 (openCount (withPeer (decodeTable t) k p)))
-        ∙ omega (arith, length-oct 2 (usedCount (withPeer (decodeTable t) k p)), length-oct 2 (openCount (withPeer (decodeTable t) k p)))
+  length-stored : length stored-in ≡ length t
+  length-stored = length-put t (recordAt (widthOf t) k) (encodePeer (widthOf t) p) (omega (arith, length-record, inside))
 
-    lv : length (put s 2 v) ≡ length s
-    lv = length-put s 2 v (omega (arith, l4, ls))
+  length-four : length four ≡ 4
+  length-four = length-append (oct 2 (usedCount (withPeer (decodeTable t) k p))) (oct 2 (openCount (withPeer (decodeTable t) k p)))
+      ∙ omega (arith, length-oct 2 (usedCount (withPeer (decodeTable t) k p)), length-oct 2 (openCount (withPeer (decodeTable t) k p)))
 
-    third : part (put s 2 v) 12 2 ≡ oct 2 0
-    third = part-put-after s 2 v 12 2 (omega (arith, l4, ls)) (omega (arith, l4)) ∙ part-put-before t (32 + size * k) (encodePeer p) 12 2 (omega arith) (omega arith)
-        ∙ third-zero t b (omega arith) z
+  long : 32 ≤ length t
+  long = omega (arith, h, after-header (widthOf t) n)
 
--- EVERY OTHER OCTET stays: before the counts, between them and the slot, and past the slot
-pub placed-outside : (t : List ℕ) (n k : ℕ) (p : Peer) (at m : ℕ) → Bytes t → length t ≡ 32 + size * n → k < n → ShapePeer width p → decodeTable t .header .counts .spare ≡ 0
-    → ((at + m ≤ 2) ⊎ ((6 ≤ at) × (at + m ≤ 32 + size * k))) ⊎ (32 + size * k + size ≤ at)
-    → part (encodeTable (placed (decodeTable t) k p)) at m ≡ part t at m
-placed-outside t n k p at m b h l f z w =
-    ap (λ (x : List ℕ). part x at m) (placed-octets t n k p b h l f z) ∙ go w
-  where
-    v : List ℕ
-    v = oct 2 (usedCount (withPeer (decodeTable t) k p)) ++ oct 2 (openCount (withPeer (decodeTable t) k p))
+  third : part (put stored-in 2 four) 12 2 ≡ oct 2 0
+  third = part-put-after stored-in 2 four 12 2 (omega (arith, length-four, length-stored, long)) (omega (arith, length-four))
+      ∙ part-put-before t (recordAt (widthOf t) k) (encodePeer (widthOf t) p) 12 2 (omega (arith, inside)) (omega (arith, after-header (widthOf t) k)) ∙ third-zero t b long z
 
-    lv : length v ≡ 4
-    lv = length-append (oct 2 (usedCount (withPeer (decodeTable t) k p))) (oct 2 (openCount (withPeer (decodeTable t) k p)))
-        ∙ omega (arith, length-oct 2 (usedCount (withPeer (decodeTable t) k p)), length-oct 2 (openCount (withPeer (decodeTable t) k p)))
+  pub placed-octets : encodeTable (placed (decodeTable t) k p) ≡
+      put (put t (recordAt (widthOf t) k) (encodePeer (widthOf t) p)) 2 (oct 2 (usedCount (withPeer (decodeTable t) k p)) ++ oct 2 (openCount (withPeer (decodeTable t) k p)))
+  unfolding placed recounted
+  placed-octets =
+      sym (counts-put (withPeer (decodeTable t) k p) (countsOf (withPeer (decodeTable t) k p)))
+      ∙ ap (λ (x : List ℕ). put (put x 2 four) 12 (oct 2 0)) (with-peer-octets t n k p b h l f) ∙ ap (put (put stored-in 2 four) 12) (sym third)
+      ∙ put-part (put stored-in 2 four) 12 2 (omega (arith, length-put stored-in 2 four (omega (arith, length-four, length-stored, long)), length-stored, long))
 
-    lp : length (encodePeer p) ≡ size
-    lp = length-peer width p f
+  -- EVERY OTHER OCTET stays: before the counts, between them and the slot, and past the slot
+  pub placed-outside : (at m : ℕ) → ((at + m ≤ 2) ⊎ ((6 ≤ at) × (at + m ≤ recordAt (widthOf t) k))) ⊎ (recordAt (widthOf t) k + recordSize (widthOf t) ≤ at)
+      → part (encodeTable (placed (decodeTable t) k p)) at m ≡ part t at m
+  placed-outside at m w = ap (λ (x : List ℕ). part x at m) placed-octets ∙ go w
+    where
+      go : ((at + m ≤ 2) ⊎ ((6 ≤ at) × (at + m ≤ recordAt (widthOf t) k))) ⊎ (recordAt (widthOf t) k + recordSize (widthOf t) ≤ at) → part (put stored-in 2 four) at m ≡ part t at m
+      go (inl (inl x)) =
+          part-put-before stored-in 2 four at m (omega (arith, length-stored, long)) x
+          ∙ part-put-before t (recordAt (widthOf t) k) (encodePeer (widthOf t) p) at m (omega (arith, inside)) (omega (arith, x, after-header (widthOf t) k))
+      go (inl (inr x)) =
+          part-put-after stored-in 2 four at m (omega (arith, length-stored, length-four, long)) (omega (arith, length-four, x .0))
+          ∙ part-put-before t (recordAt (widthOf t) k) (encodePeer (widthOf t) p) at m (omega (arith, inside)) (x .1)
+      go (inr x) =
+          part-put-after stored-in 2 four at m (omega (arith, length-stored, length-four, long)) (omega (arith, length-four, x, after-header (widthOf t) k))
+          ∙ part-put-after t (recordAt (widthOf t) k) (encodePeer (widthOf t) p) at m (omega (arith, length-record, inside)) (omega (arith, length-record, x))
 
-    ls : length (put t (32 + size * k) (encodePeer p)) ≡ length t
-    ls = length-put t (32 + size * k) (encodePeer p) (omega (arith, lp))
+-- ---- and back: a table whose values fit, and are stored with its width without loss, is that of its octets
 
-    go : ((at + m ≤ 2) ⊎ ((6 ≤ at) × (at + m ≤ 32 + size * k))) ⊎ (32 + size * k + size ≤ at) → part (put (put t (32 + size * k) (encodePeer p)) 2 v) at m ≡ part t at m
-    go (inl (inl x)) =
-        part-put-before (put t (32 + size * k) (encodePeer p)) 2 v at m (omega (arith, ls)) x ∙ part-put-before t (32 + size * k) (encodePeer p) at m (omega arith) (omega arith)
-    go (inl (inr x)) =
-        part-put-after (put t (32 + size * k) (encodePeer p)) 2 v at m (omega (arith, ls, lv)) (omega (arith, lv, x .0)) ∙ part-put-before t (32 + size * k) (encodePeer p) at m (omega arith) (x .1)
-    go (inr x) =
-        part-put-after (put t (32 + size * k) (encodePeer p)) 2 v at m (omega (arith, ls, lv)) (omega (arith, lv)) ∙ part-put-after t (32 + size * k) (encodePeer p) at m (omega (arith, lp)) (omega (arith, lp))
-
--- ---- and back: a table whose values fit is that of its octets
-
-pub data Fits : List Peer → Type 0 where
-  none : Fits []
-  more : {p : Peer} {ps : List Peer} → FitPeer width p → Fits ps → Fits (p ∷ ps)
+pub data Fits (W : ℕ) : List Peer → Type 0 where
+  none : Fits W []
+  more : {p : Peer} {ps : List Peer} → FitPeer width p → StorablePeer W p → Fits W ps → Fits W (p ∷ ps)
 
 pub record FitTable (T : Table) : Type 0 where
   pub header : FitHeader (T .header)
-  pub peers : Fits (T .peers)
+  pub peers : Fits (widthIn (T .header)) (T .peers)
 
-size-of : {ps : List Peer} → Fits ps → length (octetsOf ps) ≡ size * length ps
-unfolding octetsOf
-size-of none = refl
-size-of (more {p} {ps} f r) = length-append (encodePeer p) (octetsOf ps) ∙ omega (arith, length-peer width p (shape-peer f), size-of r)
+module _ (W : ℕ) (w : W ≤ width) where
+  of-one : {p : Peer} → FitPeer width p → length (encodePeer W p) ≡ recordSize W
+  of-one {p} f = length-peer W p w (shape-peer f)
 
-peers-of-octets : {ps : List Peer} → Fits ps → peersOf (length ps) (octetsOf ps) ≡ ps
-unfolding octetsOf peersOf
-peers-of-octets none = refl
-peers-of-octets (more {p} {ps} f r) =
-    rw (take-at (encodePeer p) (octetsOf ps) size (length-peer width p (shape-peer f)), drop-at (encodePeer p) (octetsOf ps) size (length-peer width p (shape-peer f)), dec-enc-peer width p (shape-peer f), peers-of-octets r) refl
+  size-of : {ps : List Peer} → Fits W ps → length (octetsOf W ps) ≡ recordSize W * length ps
+  unfolding octetsOf
+  size-of none = sym (mul-zero (recordSize W))
+  size-of (more {p} {ps} f g r) = length-append (encodePeer W p) (octetsOf W ps) ∙ omega (arith, of-one f, size-of r, next (recordSize W) (length ps))
 
-pub length-table : (T : Table) → FitTable T → length (encodeTable T) ≡ 32 + size * length (T .peers)
+  peers-of-octets : {ps : List Peer} → Fits W ps → peersOf W (length ps) (octetsOf W ps) ≡ ps
+  unfolding octetsOf peersOf
+  peers-of-octets none = refl
+  peers-of-octets (more {p} {ps} f g r) =
+      rw (take-at (encodePeer W p) (octetsOf W ps) (recordSize W) (of-one f), drop-at (encodePeer W p) (octetsOf W ps) (recordSize W) (of-one f), dec-enc-peer W p w (shape-peer f) g, peers-of-octets r) refl
+
+pub length-table : (T : Table) → FitTable T → length (encodeTable T) ≡ recordAt (widthIn (T .header)) (length (T .peers))
 unfolding encodeTable
-length-table T f = length-append (encodeHeader (T .header)) (octetsOf (T .peers)) ∙ omega (arith, length-header (T .header) (f .header .shape), size-of (f .peers))
+length-table T f =
+    length-append (encodeHeader (T .header)) (octetsOf (widthIn (T .header)) (T .peers))
+    ∙ omega (arith, length-header (T .header) (f .header .shape), size-of (widthIn (T .header)) (form-width _) (f .peers), behind (widthIn (T .header)) (length (T .peers)))
 
 pub decode-encode : (T : Table) → FitTable T → decodeTable (encodeTable T) ≡ T
 unfolding decodeTable encodeTable part
 decode-encode T f =
-    let l : length (encodeTable T) ≡ 32 + size * length (T .peers) = length-table T f in
-    let q : (length (encodeHeader (T .header) ++ octetsOf (T .peers)) - 32) / size ≡ length (T .peers) = omega arith in
-    let h : decodeHeader (encodeHeader (T .header) ++ octetsOf (T .peers)) ≡ T .header =
-    sym (header-front (encodeHeader (T .header) ++ octetsOf (T .peers)))
-    ∙ ap decodeHeader (take-at (encodeHeader (T .header)) (octetsOf (T .peers)) 32 (length-header (T .header) (f .header .shape)))
+    let l : length (encodeTable T) ≡ recordAt (widthIn (T .header)) (length (T .peers)) = length-table T f in
+    let q : (length (encodeHeader (T .header) ++ octetsOf (widthIn (T .header)) (T .peers)) - 32) / recordSize (widthIn (T .header)) ≡ length (T .peers) = many (widthIn (T .header)) (length (T .peers)) _ l in
+    let h : decodeHeader (encodeHeader (T .header) ++ octetsOf (widthIn (T .header)) (T .peers)) ≡ T .header =
+    sym (header-front (encodeHeader (T .header) ++ octetsOf (widthIn (T .header)) (T .peers)))
+    ∙ ap decodeHeader (take-at (encodeHeader (T .header)) (octetsOf (widthIn (T .header)) (T .peers)) 32 (length-header (T .header) (f .header .shape)))
     ∙ dec-enc-header (T .header) (f .header .shape) in
-    let d : drop 32 (encodeHeader (T .header) ++ octetsOf (T .peers)) ≡ octetsOf (T .peers) = drop-at (encodeHeader (T .header)) (octetsOf (T .peers)) 32 (length-header (T .header) (f .header .shape)) in
-    rw (q, d, h, peers-of-octets (f .peers)) refl
-
--- what the readers of a slot show
-pub load-peer-law : (t : List ℕ) (k : ℕ) (r : Peer) → 32 + size * k + size ≤ length t → r ≡ recordAt t k → r ≡ slot (decodeTable t) k
-load-peer-law t k r h e = e ∙ sym (slot-at t k h)
-
-pub used-at-law : (t : List ℕ) (k r : ℕ) → 32 + size * k + size ≤ length t → r ≡ num (part t (32 + size * k) 1) → r ≡ slot (decodeTable t) k .used
-used-at-law t k r h e = e ∙ sym (ap (λ (p : Peer). p .used) (slot-at t k h) ∙ used-of t k)
-
-pub state-at-law : (t : List ℕ) (k r : ℕ) → 32 + size * k + size ≤ length t → r ≡ num (part t (39 + size * k) 1) → r ≡ slot (decodeTable t) k .run .state
-state-at-law t k r h e = e ∙ sym (ap (λ (p : Peer). p .run .state) (slot-at t k h) ∙ state-of t k)
-
-pub address-at-law : (t r : List ℕ) (k : ℕ) → 32 + size * k + size ≤ length t → r ≡ part t (33 + size * k) 6 → r ≡ slot (decodeTable t) k .address
-address-at-law t r k h e = e ∙ sym (ap (λ (p : Peer). p .address) (slot-at t k h) ∙ address-of t k)
-
-pub number-at-law : (t : List ℕ) (k r : ℕ) → 32 + size * k + size ≤ length t → r ≡ num (part t (33 + size * k) 6) → r ≡ num (slot (decodeTable t) k .address)
-number-at-law t k r h e = e ∙ sym (ap (λ (p : Peer). num (p .address)) (slot-at t k h) ∙ ap num (address-of t k))
-
--- a slot's window, as the functions lend it
-pub window-law : (t : List ℕ) (k : ℕ) → 32 + size * k + size ≤ length t → decodePeer width (take (32 + size * k + size - (32 + size * k)) (drop (32 + size * k) t)) ≡ slot (decodeTable t) k
-unfolding recordAt part
-window-law t k h = let q : 32 + size * k + size - (32 + size * k) ≡ size = omega arith in ap (λ (n : ℕ). decodePeer width (take n (drop (32 + size * k) t))) q ∙ whole t k ∙ sym (slot-at t k h)
-  where
-    whole : (t : List ℕ) (k : ℕ) → decodePeer width (take size (drop (32 + size * k) t)) ≡ recordAt t k
-    whole t k = refl
+    let d : drop 32 (encodeHeader (T .header) ++ octetsOf (widthIn (T .header)) (T .peers)) ≡ octetsOf (widthIn (T .header)) (T .peers) =
+    drop-at (encodeHeader (T .header)) (octetsOf (widthIn (T .header)) (T .peers)) 32 (length-header (T .header) (f .header .shape)) in
+    rw (h, q, d, peers-of-octets (widthIn (T .header)) (form-width _) (f .peers)) refl
 
 -- what fits has octets
-bytes-all : {ps : List Peer} → Fits ps → Bytes (octetsOf ps)
+bytes-all : {W : ℕ} {ps : List Peer} → Fits W ps → Bytes (octetsOf W ps)
 unfolding octetsOf
 bytes-all none i = omega arith
-bytes-all (more {p} {ps} f r) i = bytes-append (encodePeer p) (octetsOf ps) (bytes-peer width p f) (bytes-all r) i
+bytes-all {W} (more {p} {ps} f g r) i = bytes-append (encodePeer W p) (octetsOf W ps) (bytes-peer W p f) (bytes-all r) i
 
 pub bytes-table : (T : Table) → FitTable T → Bytes (encodeTable T)
 unfolding encodeTable
-bytes-table T f = bytes-append (encodeHeader (T .header)) (octetsOf (T .peers)) (bytes-header (T .header) (f .header)) (bytes-all (f .peers))
+bytes-table T f = bytes-append (encodeHeader (T .header)) (octetsOf (widthIn (T .header)) (T .peers)) (bytes-header (T .header) (f .header)) (bytes-all (f .peers))
 
-pub number-small : (t : List ℕ) (k r : ℕ) → Bytes t → 32 + size * k + size ≤ length t → r ≡ num (part t (33 + size * k) 6) → r < 281474976710656
-number-small t k r b h e = let q : num (part t (33 + size * k) 6) < 281474976710656 = num-part t b (33 + size * k) 6 (omega arith) in rw e q
+-- ---- what the readers of a slot show
+
+module _ (t : List ℕ) (w k a : ℕ) (R : Reached t w k) (e : a ≡ recordAt w k) where
+  slot-in : slot (decodeTable t) k ≡ recordIn w t k
+  slot-in = slot-at t k (subst (λ (W : ℕ). recordAt W k + recordSize W ≤ length t) (R .told) (R .long)) ∙ ap (λ (W : ℕ). recordIn W t k) (sym (R .told))
+
+  pub used-at-law : (r : ℕ) → r ≡ num (part t (a + 0) 1) → r ≡ slot (decodeTable t) k .used
+  used-at-law r q = q ∙ ap (λ (x : ℕ). num (part t (x + 0) 1)) e ∙ sym (ap (λ (p : Peer). p .used) slot-in ∙ used-of w t k)
+
+  pub state-at-law : (r : ℕ) → r ≡ num (part t (a + 7) 1) → r ≡ slot (decodeTable t) k .run .state
+  state-at-law r q = q ∙ ap (λ (x : ℕ). num (part t (x + 7) 1)) e ∙ sym (ap (λ (p : Peer). p .run .state) slot-in ∙ state-of w t k)
+
+  pub address-at-law : (r : List ℕ) → r ≡ part t (a + 1) 6 → r ≡ slot (decodeTable t) k .address
+  address-at-law r q = q ∙ ap (λ (x : ℕ). part t (x + 1) 6) e ∙ sym (ap (λ (p : Peer). p .address) slot-in ∙ address-of w t k)
+
+  pub number-at-law : (r : ℕ) → r ≡ num (part t (a + 1) 6) → r ≡ num (slot (decodeTable t) k .address)
+  number-at-law r q = q ∙ ap num (address-at-law (part t (a + 1) 6) refl)
+
+  pub number-small : (r : ℕ) → Bytes t → r ≡ num (part t (a + 1) 6) → r < 281474976710656
+  number-small r b q = let z : num (part t (a + 1) 6) < 281474976710656 = num-part t b (a + 1) 6 (omega (arith, e, R .long)) in rw q z
+
+  -- a slot's window, as the functions lend it
+  pub window-law : (n : ℕ) → n ≡ recordSize w → decodePeer w (take (a + n - a) (drop a t)) ≡ slot (decodeTable t) k
+  unfolding recordIn part
+  window-law n q =
+      let m : a + n - a ≡ recordSize w = omega (arith, q) in
+      ap (λ (x : ℕ). decodePeer w (take x (drop a t))) m ∙ ap (λ (x : ℕ). decodePeer w (take (recordSize w) (drop x t))) e ∙ sym slot-in
+
+  pub window-length : (n : ℕ) → n ≡ recordSize w → length (take (a + n - a) (drop a t)) ≡ recordSize w
+  unfolding part
+  window-length n q = let m : a + n - a ≡ recordSize w = omega (arith, q) in ap (λ (x : ℕ). length (take x (drop a t))) m ∙ length-part t a (recordSize w) (omega (arith, e, R .long))

@@ -2,7 +2,7 @@
 use mathlib.Core.Path.{_≡_}
 use mathlib.Core.Bool.{Bool, true, not, _&&_, _||_}
 use mathlib.Core.List.{List, [], _∷_, _++_}
-use Prim.Native.Nat.{ℕ, zero, suc, _+_, _-_, _*_, _/_, _≤_, _<_}
+use Prim.Native.Nat.{ℕ, zero, suc, _+_, _-_, _/_, _≤_, _<_}
 use lib.Dec.{eqb, leb}
 use lib.ListN.{length, take, drop, getD, set}
 use Rattle.octets.specs.Octets.{num, sameAddress}
@@ -13,7 +13,7 @@ use Rattle.groups.specs.Groups.{width}
 use Rattle.record.specs.declared.Peer.{Peer}
 use Rattle.record.specs.declared.Counts.{Counts}
 use Rattle.record.specs.declared.Header.{Header}
-use Rattle.record.specs.Layout.{encodePeer, decodePeer, encodeHeader, decodeHeader, counted, groupsOf, recordSize, noPeer}
+use Rattle.record.specs.Layout.{encodePeer, decodePeer, encodeHeader, decodeHeader, counted, groupsOf, widthIn, recordSize, recordAt, noPeer}
 use Rattle.soundness.specs.Soundness.{usable, headerOk, highSync, peerOk}
 use Rattle.table.specs.declared.Standing.{Standing}
 use Rattle.table.specs.declared.Checked.{Checked}
@@ -25,26 +25,27 @@ pub record Table : Type 0 where
   pub header : Header
   pub peers : List Peer
 
--- the octets of a record
-abbrev pub size : ℕ
-size = recordSize width
+-- ---- octets: what a record stores a commit with, W, is the table's width, and whoever has the value does not see it
 
--- ---- octets
+-- n records
+unfoldable pub peersOf : ℕ → ℕ → List ℕ → List Peer
+peersOf W zero s = []
+peersOf W (suc n) s = decodePeer W (take (recordSize W) s) ∷ peersOf W n (drop (recordSize W) s)
 
-unfoldable pub peersOf : ℕ → List ℕ → List Peer
-peersOf zero s = []
-peersOf (suc n) s = decodePeer width (take size s) ∷ peersOf n (drop size s)
+unfoldable pub octetsOf : ℕ → List Peer → List ℕ
+octetsOf W [] = []
+octetsOf W (p ∷ ps) = encodePeer W p ++ octetsOf W ps
 
-unfoldable pub octetsOf : List Peer → List ℕ
-octetsOf [] = []
-octetsOf (p ∷ ps) = encodePeer p ++ octetsOf ps
+-- the width that a table's record size tells
+abbrev pub widthOf : List ℕ → ℕ
+widthOf t = widthIn (decodeHeader t)
 
 -- as many records as there are octets for
 unfoldable pub decodeTable : List ℕ → Table
-decodeTable t = record { header = decodeHeader t; peers = peersOf ((length t - 32) / size) (drop 32 t) }
+decodeTable t = record { header = decodeHeader t; peers = peersOf (widthOf t) ((length t - 32) / recordSize (widthOf t)) (drop 32 t) }
 
 unfoldable pub encodeTable : Table → List ℕ
-encodeTable T = encodeHeader (T .header) ++ octetsOf (T .peers)
+encodeTable T = encodeHeader (T .header) ++ octetsOf (widthIn (T .header)) (T .peers)
 
 -- ---- slots
 
@@ -119,7 +120,7 @@ unfoldable pub sound : List ℕ → Bool
 sound t =
     leb 32 (length t)
     && (headerOk (decodeTable t .header)
-    && (eqb (length t) (32 + size * slots (decodeTable t))
+    && (eqb (length t) (recordAt (widthOf t) (slots (decodeTable t)))
     && (slotsOk (decodeTable t)
     && (addressesOk (decodeTable t)
     && countsOk (decodeTable t)))))
@@ -153,8 +154,8 @@ standingOf p = record { used = inUse p; opened = isOpen p }
 
 -- what `recount` asks of the octets: a table of the right length whose counts are true but for one record's share, which is still what it was
 pub record Changed (t : List ℕ) (k : ℕ) (h : Header) (was : Standing) : Type 0 where
-  pub fits : 32 + size * k + size ≤ length t
-  pub whole : length t ≡ 32 + size * slots (decodeTable t)
+  pub fits : recordAt (widthOf t) k + recordSize (widthOf t) ≤ length t
+  pub whole : length t ≡ recordAt (widthOf t) (slots (decodeTable t))
   pub small : slots (decodeTable t) ≤ 64
   pub header : h ≡ decodeTable t .header
   pub used : decodeTable t .header .counts .used + bit (inUse (slot (decodeTable t) k)) ≡ usedCount (decodeTable t) + bit (was .used)
@@ -162,8 +163,8 @@ pub record Changed (t : List ℕ) (k : ℕ) (h : Header) (was : Standing) : Type
 
 -- what a change of a slot's record asks of the octets: a slot of a table whose length and counts are right
 pub record Ready (t : List ℕ) (k : ℕ) : Type 0 where
-  pub fits : 32 + size * k + size ≤ length t
-  pub whole : length t ≡ 32 + size * slots (decodeTable t)
+  pub fits : recordAt (widthOf t) k + recordSize (widthOf t) ≤ length t
+  pub whole : length t ≡ recordAt (widthOf t) (slots (decodeTable t))
   pub below : k < slots (decodeTable t)
   pub small : slots (decodeTable t) ≤ 64
   pub counts : decodeTable t .header .counts ≡ countsOf (decodeTable t)
@@ -180,7 +181,7 @@ newKey keys k = eqb (getD keys k 0) 0 || allBelow (λ j. not (eqb (getD keys j 0
 
 -- what the tests on the slots ask: the header, of the right form, and the number of slots
 pub record Whole (t : List ℕ) (h : Header) (n : ℕ) : Type 0 where
-  pub long : 32 + size * n ≤ length t
+  pub long : recordAt (widthOf t) n ≤ length t
   pub header : h ≡ decodeTable t .header
   pub slots : n ≡ slots (decodeTable t)
   pub few : n ≤ 64
@@ -195,10 +196,21 @@ pub record Headed (t : List ℕ) (h : Header) : Type 0 where
   pub long : 32 ≤ length t
   pub header : h ≡ decodeTable t .header
 
--- the number of slots
-pub record Sized (t : List ℕ) (n : ℕ) : Type 0 where
+-- the table's width, and that the octets of the slots below n are there; those of slot k
+pub record Reaches (t : List ℕ) (w n : ℕ) : Type 0 where
+  pub told : w ≡ widthOf t
+  pub most : w ≤ width
+  pub long : recordAt w n ≤ length t
+
+pub record Reached (t : List ℕ) (w k : ℕ) : Type 0 where
+  pub told : w ≡ widthOf t
+  pub most : w ≤ width
+  pub long : recordAt w k + recordSize w ≤ length t
+
+-- the table's width and number of slots
+pub record Sized (t : List ℕ) (w n : ℕ) : Type 0 where
   pub number : n ≡ slots (decodeTable t)
-  pub long : 32 + size * n ≤ length t
+  pub reaches : Reaches t w n
 
 -- whether the table is sound, and if so its header; of another table the header is left open, since nothing is done with it
 pub record Looked (t : List ℕ) (whole : Bool) (h : Header) : Type 0 where

@@ -2,24 +2,25 @@
 ghost use mathlib.Core.Path.{_≡_};
 ghost use mathlib.Core.Bool.{true, _&&_};
 ghost use mathlib.Core.List.{_++_};
-ghost use Prim.Native.Nat.{ℕ, _+_, _-_, _*_, _≤_, _<_};
+ghost use Prim.Native.Nat.{ℕ, _+_, _-_, _≤_, _<_};
 ghost use lib.Dec.{eqb};
 ghost use lib.ListN.{length, getD, replicate};
 ghost use Rattle.octets.specs.Octets.{num};
 ghost use Rattle.octets.specs.Scan.{allBelow, countBelow, firstBelow, lastBelow, bit};
-ghost use Rattle.record.specs.Layout.{encodeHeader};
+ghost use Rattle.record.specs.Layout.{encodeHeader, widthIn};
 ghost use Rattle.soundness.specs.Soundness.{peerOk};
-ghost use Rattle.table.specs.Table.{size, decodeTable, encodeTable, slots, slot, inUse, isOpen, finds, freeSlot, usedCount, countsOf, slotsOk, alone, addressesOk, countsOk, sound, entry, recounted, key, newKey, standingOf, Changed, Whole, Headed, Sized, Looked, Checks, Enters};
+ghost use Rattle.table.specs.Table.{decodeTable, encodeTable, slots, slot, inUse, isOpen, finds, freeSlot, usedCount, countsOf, slotsOk, alone, addressesOk, countsOk, sound, entry, recounted, key, newKey, standingOf, Changed, Whole, Headed, Reaches, Reached, Sized, Looked, Checks, Enters};
 ghost use Rattle.table.specs.Initial.{slotsFor, lengthOk, initialHeader, initialOk, initial};
 use octets::Found;
+use record::ADDRESS;
 use record::Counts;
 use record::Geometry;
 use record::HEADER;
 use record::Header;
-use record::Peer;
-use record::RECORD;
 use record::RUN;
+use record::STATE;
 use record::Settings;
+use record::USED;
 
 // A table of at most so many slots is small.
 const FEW: usize = 8;
@@ -46,78 +47,73 @@ pub struct Entrance {
 
 // ---- one slot
 
-pub fn load_peer(t: &[u8], k: usize) -> Peer
-    requires { ⌜ 32 + size * k + size ≤ length (now t) ⌝ }
-    ensures { λ r. ⌜ r ≡ slot (decodeTable (now (t .entry))) k ⌝ }
-{
-    let a = HEADER + RECORD * k;
-    let e = a + RECORD;
-    record::load_peer(&t[a..e])
-}
-
-pub fn used_at(t: &[u8], k: usize) -> u8
-    requires { ⌜ 32 + size * k + size ≤ length (now t) ⌝ }
+pub fn used_at(t: &[u8], w: usize, k: usize) -> u8
+    requires { ⌜ Reached (now t) w k ⌝ }
     ensures { λ r. ⌜ r ≡ slot (decodeTable (now (t .entry))) k .used ⌝ }
 {
-    octets::get8(t, HEADER + RECORD * k)
+    let a = record::record_at(w, k);
+    octets::get8(t, a + USED)
 }
 
-pub fn state_at(t: &[u8], k: usize) -> u8
-    requires { ⌜ 32 + size * k + size ≤ length (now t) ⌝ }
+pub fn state_at(t: &[u8], w: usize, k: usize) -> u8
+    requires { ⌜ Reached (now t) w k ⌝ }
     ensures { λ r. ⌜ r ≡ slot (decodeTable (now (t .entry))) k .run .state ⌝ }
 {
-    octets::get8(t, HEADER + RUN + RECORD * k)
+    let a = record::record_at(w, k);
+    octets::get8(t, a + (RUN + STATE))
 }
 
-pub fn address_at(t: &[u8], k: usize) -> [u8; 6]
-    requires { ⌜ 32 + size * k + size ≤ length (now t) ⌝ }
+pub fn address_at(t: &[u8], w: usize, k: usize) -> [u8; 6]
+    requires { ⌜ Reached (now t) w k ⌝ }
     ensures { λ r. ⌜ r ≡ slot (decodeTable (now (t .entry))) k .address ⌝ }
 {
-    octets::take6(t, HEADER + 1 + RECORD * k)
+    let a = record::record_at(w, k);
+    octets::take6(t, a + ADDRESS)
 }
 
 // The address of a slot's record, as one number.
-fn number_at(t: &[u8], k: usize) -> u64
-    requires { ⌜ 32 + size * k + size ≤ length (now t) ⌝ }
+fn number_at(t: &[u8], w: usize, k: usize) -> u64
+    requires { ⌜ Reached (now t) w k ⌝ }
     ensures { λ r. ⌜ (r ≡ num (slot (decodeTable (now (t .entry))) k .address)) × (r < 281474976710656) ⌝ }
 {
-    octets::get48(t, HEADER + 1 + RECORD * k)
+    let a = record::record_at(w, k);
+    octets::get48(t, a + ADDRESS)
 }
 
-fn is_used(t: &[u8], k: usize) -> bool
-    requires { ⌜ 32 + size * k + size ≤ length (now t) ⌝ }
+fn is_used(t: &[u8], w: usize, k: usize) -> bool
+    requires { ⌜ Reached (now t) w k ⌝ }
     ensures { λ r. ⌜ r ≡ inUse (slot (decodeTable (now (t .entry))) k) ⌝ }
 {
-    used_at(t, k) == 1
+    used_at(t, w, k) == 1
 }
 
-pub fn is_open(t: &[u8], k: usize) -> bool
-    requires { ⌜ 32 + size * k + size ≤ length (now t) ⌝ }
+pub fn is_open(t: &[u8], w: usize, k: usize) -> bool
+    requires { ⌜ Reached (now t) w k ⌝ }
     ensures { λ r. ⌜ r ≡ isOpen (slot (decodeTable (now (t .entry))) k) ⌝ }
 {
-    let state = state_at(t, k);
+    let state = state_at(t, w, k);
     (state == 1) | (state == 2)
 }
 
-fn has(t: &[u8], k: usize, x: u64) -> bool
-    requires { ⌜ 32 + size * k + size ≤ length (now t) ⌝ }
+fn has(t: &[u8], w: usize, k: usize, x: u64) -> bool
+    requires { ⌜ Reached (now t) w k ⌝ }
     ensures { λ r. ⌜ r ≡ (inUse (slot (decodeTable (now (t .entry))) k) && eqb (num (slot (decodeTable (now (t .entry))) k .address)) x) ⌝ }
 {
-    let used = is_used(t, k);
-    let number = number_at(t, k);
+    let used = is_used(t, w, k);
+    let number = number_at(t, w, k);
     used & (number == x)
 }
 
 // ---- searches and counts below a slot
 
 // The first slot below n in use with the address of the number x.
-fn find_below(t: &[u8], n: usize, x: u64) -> Found
-    requires { ⌜ 32 + size * n ≤ length (now t) ⌝ }
+fn find_below(t: &[u8], w: usize, n: usize, x: u64) -> Found
+    requires { ⌜ Reaches (now t) w n ⌝ }
     ensures { λ r. ⌜ r ≡ firstBelow (λ k. inUse (slot (decodeTable (now (t .entry))) k) && eqb (num (slot (decodeTable (now (t .entry))) k .address)) x) n ⌝ }
 {
     let mut i = 0;
     while i < n {
-        if has(t, i, x) {
+        if has(t, w, i, x) {
             return Found::At(i);
         }
         i += 1;
@@ -126,14 +122,14 @@ fn find_below(t: &[u8], n: usize, x: u64) -> Found
 }
 
 // The last free slot below n.
-fn free_below(t: &[u8], n: usize) -> Found
-    requires { ⌜ 32 + size * n ≤ length (now t) ⌝ }
+fn free_below(t: &[u8], w: usize, n: usize) -> Found
+    requires { ⌜ Reaches (now t) w n ⌝ }
     ensures { λ r. ⌜ r ≡ lastBelow (λ k. eqb (slot (decodeTable (now (t .entry))) k .used) 0) n ⌝ }
 {
     let mut i = n;
     while 0 < i {
         let k = i - 1;
-        if used_at(t, k) == 0 {
+        if used_at(t, w, k) == 0 {
             return Found::At(k);
         }
         i -= 1;
@@ -142,16 +138,16 @@ fn free_below(t: &[u8], n: usize) -> Found
 }
 
 // The counts over the slots below n, in one pass.
-fn counts_below(t: &[u8], n: usize) -> Counts
-    requires { ⌜ (32 + size * n ≤ length (now t)) × (n ≤ 64) ⌝ }
+fn counts_below(t: &[u8], w: usize, n: usize) -> Counts
+    requires { ⌜ Reaches (now t) w n × (n ≤ 64) ⌝ }
     ensures { λ r. ⌜ (r .used ≡ countBelow (λ k. inUse (slot (decodeTable (now (t .entry))) k)) n) × ((r .opened ≡ countBelow (λ k. isOpen (slot (decodeTable (now (t .entry))) k)) n) × (r .spare ≡ 0)) ⌝ }
 {
     let mut used: usize = 0;
     let mut opened: usize = 0;
     let mut i = 0;
     while i < n {
-        used += octets::one_if(is_used(t, i));
-        opened += octets::one_if(is_open(t, i));
+        used += octets::one_if(is_used(t, w, i));
+        opened += octets::one_if(is_open(t, w, i));
         i += 1;
     }
     Counts {
@@ -163,23 +159,23 @@ fn counts_below(t: &[u8], n: usize) -> Counts
 
 // ---- the form of the table
 
-fn slot_ok(t: &[u8], k: usize, own: [u8; 6], groups: &[u16], high: u8) -> bool
-    requires { ⌜ (32 + size * k + size ≤ length (now t)) × ((1 ≤ length (now groups)) × (length (now groups) ≤ 8)) ⌝ }
+fn slot_ok(t: &[u8], w: usize, k: usize, own: [u8; 6], groups: &[u16], high: u8) -> bool
+    requires { ⌜ Reached (now t) w k × ((1 ≤ length (now groups)) × (length (now groups) ≤ 8)) ⌝ }
     ensures { λ r. ⌜ r ≡ peerOk own (now (groups .entry)) high (slot (decodeTable (now (t .entry))) k) ⌝ }
 {
-    let a = HEADER + RECORD * k;
-    let e = a + RECORD;
-    soundness::peer_ok(&t[a..e], own, groups, high)
+    let a = record::record_at(w, k);
+    let e = a + record::record_size(w);
+    soundness::peer_ok(&t[a..e], w, own, groups, high)
 }
 
 // Every slot below n has its form: one pass over the records.
-fn slots_ok(t: &[u8], n: usize, own: [u8; 6], groups: &[u16], high: u8) -> bool
-    requires { ⌜ (32 + size * n ≤ length (now t)) × ((1 ≤ length (now groups)) × (length (now groups) ≤ 8)) ⌝ }
+fn slots_ok(t: &[u8], w: usize, n: usize, own: [u8; 6], groups: &[u16], high: u8) -> bool
+    requires { ⌜ Reaches (now t) w n × ((1 ≤ length (now groups)) × (length (now groups) ≤ 8)) ⌝ }
     ensures { λ r. ⌜ r ≡ allBelow (λ k. peerOk own (now (groups .entry)) high (slot (decodeTable (now (t .entry))) k)) n ⌝ }
 {
     let mut i = 0;
     while i < n {
-        if slot_ok(t, i, own, groups, high) {
+        if slot_ok(t, w, i, own, groups, high) {
             i += 1;
         } else {
             return false;
@@ -189,25 +185,25 @@ fn slots_ok(t: &[u8], n: usize, own: [u8; 6], groups: &[u16], high: u8) -> bool
 }
 
 // One above the number of a slot's address, 0 where it is free.
-fn key_at(t: &[u8], k: usize) -> u64
-    requires { ⌜ 32 + size * k + size ≤ length (now t) ⌝ }
+fn key_at(t: &[u8], w: usize, k: usize) -> u64
+    requires { ⌜ Reached (now t) w k ⌝ }
     ensures { λ r. ⌜ r ≡ key (slot (decodeTable (now (t .entry))) k) ⌝ }
 {
-    let number = number_at(t, k);
-    if is_used(t, k) {
+    let number = number_at(t, w, k);
+    if is_used(t, w, k) {
         return number + 1;
     }
     0
 }
 
 // The keys of the first n slots, side by side.
-fn fill_keys(t: &[u8], n: usize, keys: &mut [u64])
-    requires { ⌜ (32 + size * n ≤ length (now t)) × (n ≤ length (now keys)) ⌝ }
+fn fill_keys(t: &[u8], w: usize, n: usize, keys: &mut [u64])
+    requires { ⌜ Reaches (now t) w n × (n ≤ length (now keys)) ⌝ }
     ensures { λ _. ⌜ ((k : ℕ) → k < n → getD (now (keys .exit)) k 0 ≡ key (slot (decodeTable (now (t .entry))) k)) ⌝ }
 {
     let mut i = 0;
     while i < n {
-        let x = key_at(t, i);
+        let x = key_at(t, w, i);
         keys[i] = x;
         i += 1;
     }
@@ -247,17 +243,17 @@ fn all_new(keys: &[u64], n: usize) -> bool
 }
 
 // The addresses of the slots in use differ; their keys are laid out in what is lent.
-fn differ_in(t: &[u8], n: usize, keys: &mut [u64]) -> bool
-    requires { ⌜ (32 + size * n ≤ length (now t)) × (n ≤ length (now keys)) ⌝ }
+fn differ_in(t: &[u8], w: usize, n: usize, keys: &mut [u64]) -> bool
+    requires { ⌜ Reaches (now t) w n × (n ≤ length (now keys)) ⌝ }
     ensures { λ r. ⌜ r ≡ allBelow (alone (decodeTable (now (t .entry)))) n ⌝ }
 {
-    fill_keys(t, n, keys);
+    fill_keys(t, w, n, keys);
     all_new(keys, n)
 }
 
 // The same, if `used` is the number of slots in use: fewer than two have no address twice. No more room is taken for keys than a small table needs.
-fn addresses_ok(t: &[u8], n: usize, used: u16) -> bool
-    requires { ⌜ (32 + size * n ≤ length (now t)) × ((n ≤ 64) × (n ≡ slots (decodeTable (now t)))) ⌝ }
+fn addresses_ok(t: &[u8], w: usize, n: usize, used: u16) -> bool
+    requires { ⌜ Reaches (now t) w n × ((n ≤ 64) × (n ≡ slots (decodeTable (now t)))) ⌝ }
     ensures { λ r. ⌜ (used ≡ usedCount (decodeTable (now (t .entry))) → r ≡ addressesOk (decodeTable (now (t .entry)))) ⌝ }
 {
     if used < 2 {
@@ -265,17 +261,17 @@ fn addresses_ok(t: &[u8], n: usize, used: u16) -> bool
     }
     if n <= FEW {
         let mut few = [0u64; FEW];
-        return differ_in(t, n, &mut few[..]);
+        return differ_in(t, w, n, &mut few[..]);
     }
     let mut keys = [0u64; 64];
-    differ_in(t, n, &mut keys[..])
+    differ_in(t, w, n, &mut keys[..])
 }
 
-fn counts_ok(t: &[u8], h: Header, n: usize) -> bool
-    requires { ⌜ (32 + size * n ≤ length (now t)) × ((n ≤ 64) × ((h ≡ decodeTable (now t) .header) × (n ≡ slots (decodeTable (now t))))) ⌝ }
+fn counts_ok(t: &[u8], w: usize, h: Header, n: usize) -> bool
+    requires { ⌜ Reaches (now t) w n × ((n ≤ 64) × ((h ≡ decodeTable (now t) .header) × (n ≡ slots (decodeTable (now t))))) ⌝ }
     ensures { λ r. ⌜ r ≡ countsOk (decodeTable (now (t .entry))) ⌝ }
 {
-    let counts = counts_below(t, n);
+    let counts = counts_below(t, w, n);
     (h.counts.used == counts.used)
         & ((h.counts.opened == counts.opened) & (h.counts.spare == counts.spare))
 }
@@ -289,9 +285,10 @@ fn body_ok(t: &[u8], h: Header, n: usize) -> bool
     let gs = h.settings.groups;
     let m = h.settings.count as usize;
     let high = record::limit_of(h.settings.limit) + 1;
-    let slots = slots_ok(t, n, own, &gs[..m], high);
-    let addresses = addresses_ok(t, n, h.counts.used);
-    let counts = counts_ok(t, h, n);
+    let w = record::width_of(h);
+    let slots = slots_ok(t, w, n, own, &gs[..m], high);
+    let addresses = addresses_ok(t, w, n, h.counts.used);
+    let counts = counts_ok(t, w, h, n);
     slots & (addresses & counts)
 }
 
@@ -311,7 +308,8 @@ fn is_whole(t: &[u8], h: Header) -> bool
         return false;
     }
     let n = h.geometry.slots as usize;
-    if t.len() != HEADER + RECORD * n {
+    let w = record::width_of(h);
+    if t.len() != record::record_at(w, n) {
         return false;
     }
     body_ok(t, h, n)
@@ -349,20 +347,20 @@ pub fn check(t: &[u8]) -> Checked
 // ---- a sound table
 
 // The slot of an address.
-fn find(t: &[u8], n: usize, a: [u8; 6]) -> Found
-    requires { ⌜ Sized (now t) n ⌝ }
+fn find(t: &[u8], w: usize, n: usize, a: [u8; 6]) -> Found
+    requires { ⌜ Sized (now t) w n ⌝ }
     ensures { λ r. ⌜ r ≡ finds (decodeTable (now (t .entry))) a ⌝ }
 {
     let x = octets::packed(a);
-    find_below(t, n, x)
+    find_below(t, w, n, x)
 }
 
 // "A new peer takes the free slot nearest the end."
-pub fn free_slot(t: &[u8], n: usize) -> Found
-    requires { ⌜ Sized (now t) n ⌝ }
+pub fn free_slot(t: &[u8], w: usize, n: usize) -> Found
+    requires { ⌜ Sized (now t) w n ⌝ }
     ensures { λ r. ⌜ r ≡ freeSlot (decodeTable (now (t .entry))) ⌝ }
 {
-    free_below(t, n)
+    free_below(t, w, n)
 }
 
 // What an address comes to in a sound table.
@@ -374,7 +372,8 @@ fn entry_of(t: &[u8], h: Header, a: [u8; 6]) -> Entry
     if !soundness::is_usable(own, a) {
         return Entry::Unusable;
     }
-    match find(t, h.geometry.slots as usize, a) {
+    let w = record::width_of(h);
+    match find(t, w, h.geometry.slots as usize, a) {
         Found::At(k) => Entry::At(k),
         Found::Nothing => Entry::Absent,
     }
@@ -407,12 +406,12 @@ pub struct Standing {
     pub opened: bool,
 }
 
-pub fn standing_of(t: &[u8], k: usize) -> Standing
-    requires { ⌜ 32 + size * k + size ≤ length (now t) ⌝ }
+pub fn standing_of(t: &[u8], w: usize, k: usize) -> Standing
+    requires { ⌜ Reached (now t) w k ⌝ }
     ensures { λ r. ⌜ r ≡ standingOf (slot (decodeTable (now (t .entry))) k) ⌝ }
 {
-    let used = is_used(t, k);
-    let opened = is_open(t, k);
+    let used = is_used(t, w, k);
+    let opened = is_open(t, w, k);
     Standing {
         used: used,
         opened: opened,
@@ -434,8 +433,9 @@ fn counts_after(t: &[u8], k: usize, h: Header, was: Standing) -> Counts
     requires { ⌜ Changed (now t) k h was ⌝ }
     ensures { λ r. ⌜ r ≡ countsOf (decodeTable (now (t .entry))) ⌝ }
 {
-    let used = moved(h.counts.used, was.used, is_used(t, k));
-    let opened = moved(h.counts.opened, was.opened, is_open(t, k));
+    let w = record::width_of(h);
+    let used = moved(h.counts.used, was.used, is_used(t, w, k));
+    let opened = moved(h.counts.opened, was.opened, is_open(t, w, k));
     Counts {
         used: used,
         opened: opened,
@@ -458,7 +458,8 @@ fn slots_for(n: usize) -> usize
     requires { ⌜ 32 ≤ n ⌝ }
     ensures { λ r. ⌜ r ≡ slotsFor n ⌝ }
 {
-    (n - HEADER) / RECORD
+    let form = record::narrow();
+    (n - HEADER) / form.size as usize
 }
 
 // Whether a length is that of 1 to 64 slots.
@@ -468,14 +469,16 @@ fn length_ok(n: usize) -> bool
     if n < HEADER {
         return false;
     }
+    let form = record::narrow();
     let k = slots_for(n);
-    (1 <= k) & ((k <= 64) & ((n - HEADER) % RECORD == 0))
+    (1 <= k) & ((k <= form.slots as usize) & ((n - HEADER) % form.size as usize == 0))
 }
 
 fn initial_ok(s: Settings, own: [u8; 6], n: usize) -> bool
     ensures { λ r. ⌜ r ≡ initialOk s own n ⌝ }
 {
-    let settings = soundness::settings_ok(s);
+    let form = record::narrow();
+    let settings = soundness::settings_ok(form, s);
     let owner = soundness::own_ok(own);
     let length = length_ok(n);
     settings & (owner & length)
@@ -484,10 +487,11 @@ fn initial_ok(s: Settings, own: [u8; 6], n: usize) -> bool
 fn initial_header(s: Settings, own: [u8; 6], n: u16) -> Header
     ensures { λ r. ⌜ r ≡ initialHeader s own n ⌝ }
 {
+    let form = record::narrow();
     Header {
         geometry: Geometry {
             slots: n,
-            size: RECORD as u16,
+            size: form.size,
             first: HEADER as u16,
         },
         counts: Counts {

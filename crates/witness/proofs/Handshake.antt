@@ -39,7 +39,7 @@ use Rattle.agreement.specs.Story as stories
 use Rattle.agreement.specs.Sent.{drawn, expectedOf, Among, only, first, second, SendsBy, Sent, SentOver}
 use Rattle.agreement.specs.Statement.{Uses, Meets, run, link, Premises, Demand3}
 use Rattle.agreement.proofs.Demand.{demand3}
-use Rattle.witness.specs.Handshake.{own, settings, commit, value, setUp, start, getsCommit, getsConfirm, ready, started, confirmed, accepted, handshake, again}
+use Rattle.witness.specs.Handshake.{own, settings, commit, filled, value, setUp, start, getsCommit, getsConfirm, ready, started, confirmed, accepted, handshake, again}
 use Rattle.witness.specs.Handshake as calls
 use Rattle.witness.proofs.Plays.{committed, linked, empty, running, resting, plays}
 use Rattle.witness.proofs.Plays as plays-of
@@ -47,10 +47,10 @@ use Rattle.witness.proofs.Plays as plays-of
 -- ---- values
 
 abbrev pub used : ℕ → Commit
-used n = record { group = 19; octets = commit n }
+used n = record { group = 19; octets = filled n }
 
 abbrev pub pair : ℕ → ℕ → Pair
-pair n m = record { group = 19; own = commit n; peer = commit m }
+pair n m = record { group = 19; own = filled n; peer = filled m }
 
 abbrev none : Tally
 none = record { before = 0; after = 0; limit = 5 }
@@ -271,13 +271,13 @@ record Tells : Type 0 where
 tells : Tells
 unfolding octets.part octets.put octets.num octets.oct octets.allZero octets.same octets.sameAddress octets.zeroAddress octets.individual
     octets.higher scan.allBelow scan.countBelow scan.firstBelow scan.lastBelow groups.scalarLength groups.elementLength groups.commitLength
-    groups.known groups.stored groups.listed groups.placeFrom groups.place groups.indexOf groups.marked groups.mark groups.firstLeft groups.freshAt
-    groups.freshFor frame.readListed frame.readOffer frame.readTokenRequest frame.readGroupRefusal frame.readCommit frame.wholeAfter frame.wholeElements frame.elementsOf
+    groups.known groups.stored groups.listed groups.placeFrom groups.place groups.indexOf groups.marked groups.mark groups.firstLeft groups.commitsOf
+    groups.freshOf groups.freshAt groups.freshFor frame.readListed frame.readOffer frame.readTokenRequest frame.readGroupRefusal frame.readCommit frame.wholeAfter frame.wholeElements frame.elementsOf
     frame.readConfirm frame.readBody frame.tokenOf frame.scalarOf frame.elementOf frame.commitOf frame.valueOf frame.head frame.body frame.commitBody
     frame.tokenRequestBody frame.groupRefusalBody frame.confirmBody codec.cut codec.glue codec.total layout.runWidths layout.runFields layout.runOf
     layout.encodeRun layout.decodeRun layout.linkWidths layout.linkFields layout.linkOf layout.encodeLink layout.decodeLink layout.peerWidths
-    layout.peerFields layout.peerOf layout.encodePeer layout.decodePeer layout.headerWidths layout.frontFields layout.backFields layout.headerFields
-    layout.headerFront layout.headerBack layout.headerOf layout.encodeHeader layout.decodeHeader layout.noRun layout.noLink layout.noPeer layout.limitOf
+    layout.peerFields layout.peerOf layout.encodePeer layout.decodePeer layout.formOf layout.headerWidths layout.frontFields layout.backFields
+    layout.headerFields layout.headerFront layout.headerBack layout.headerOf layout.encodeHeader layout.decodeHeader layout.noRun layout.noLink layout.noPeer layout.limitOf
     tables.peersOf tables.octetsOf tables.decodeTable tables.encodeTable tables.slot tables.belongs tables.finds tables.lookBy tables.look seen.view
     seen.commitIn seen.message writing.drawCommit writing.drawTokenRequest writing.drawGroupRefusal writing.drawConfirm
     writing.drawCommits writing.drawConfirms writing.partsBody writing.partsRead writing.written writing.leaves writer.draws writer.writesParts

@@ -4,6 +4,7 @@ use mathlib.Core.List.{List, [], _∷_}
 use Prim.Native.Nat.{ℕ}
 use lib.ListN.{replicate}
 use Rattle.protocol.specs.Model.{Side, A, B, other}
+use Rattle.groups.specs.Groups.{width}
 use Rattle.record.specs.declared.Run.{Run}
 use Rattle.record.specs.declared.Link.{Link}
 use Rattle.record.specs.declared.Peer.{Peer}
@@ -31,7 +32,7 @@ use Rattle.message.specs.View as seen
 use Rattle.answers.specs.Answers as answers
 use Rattle.calls.specs.Calls as calls
 use Rattle.agreement.specs.Calls.{left}
-use Rattle.witness.specs.Handshake.{own, commit, setUp, start, getsCommit, getsConfirm}
+use Rattle.witness.specs.Handshake.{own, filled, setUp, start, getsCommit, getsConfirm}
 
 abbrev pub committed : ℕ → Run
 committed n =
@@ -43,8 +44,8 @@ committed n =
       group = 19;
       toklen = 0;
       t0 = 40;
-      own = commit n;
-      peer = replicate 144 0;
+      own = filled n;
+      peer = replicate width 0;
       token = replicate 256 0;
     }
 
@@ -58,14 +59,14 @@ confirmed n m =
       group = 19;
       toklen = 0;
       t0 = 40;
-      own = commit n;
-      peer = commit m;
+      own = filled n;
+      peer = filled m;
       token = replicate 256 0;
     }
 
 abbrev pub linked : ℕ → ℕ → ℕ → Link
 linked n m mark =
-    record { finished = 1; superseded = mark; sync = 0; spare = 0; group = 19; rc = 1; t1 = 86400000; own = commit n; peer = commit m }
+    record { finished = 1; superseded = mark; sync = 0; spare = 0; group = 19; rc = 1; t1 = 86400000; own = filled n; peer = filled m }
 
 -- the table of X with its one record, or none
 abbrev pub table : Side → ℕ → ℕ → Peer → List ℕ
@@ -143,13 +144,13 @@ pub record Plays : Type 0 where
 pub plays : Plays
 unfolding octets.part octets.put octets.num octets.oct octets.allZero octets.same octets.sameAddress octets.zeroAddress octets.individual
     octets.higher scan.allBelow scan.countBelow scan.firstBelow scan.lastBelow groups.scalarLength groups.elementLength groups.commitLength
-    groups.known groups.stored groups.listed groups.placeFrom groups.place groups.indexOf groups.marked groups.mark groups.firstLeft groups.freshAt
-    groups.freshFor groups.tailsOk groups.freshOk frame.readListed frame.readOffer frame.readTokenRequest frame.readGroupRefusal frame.readCommit
+    groups.known groups.stored groups.listed groups.placeFrom groups.place groups.indexOf groups.marked groups.mark groups.firstLeft groups.commitsOf
+    groups.freshOf groups.freshAt groups.freshFor groups.tailsOk groups.freshOk frame.readListed frame.readOffer frame.readTokenRequest frame.readGroupRefusal frame.readCommit
     frame.wholeAfter frame.wholeElements frame.elementsOf frame.readConfirm frame.readBody frame.tokenOf frame.scalarOf frame.elementOf frame.commitOf frame.valueOf frame.head frame.body
     frame.commitBody frame.tokenRequestBody frame.groupRefusalBody frame.confirmBody codec.cut codec.glue codec.total layout.runWidths
     layout.runFields layout.runOf layout.encodeRun layout.decodeRun layout.linkWidths layout.linkFields layout.linkOf layout.encodeLink
-    layout.decodeLink layout.peerWidths layout.peerFields layout.peerOf layout.encodePeer layout.decodePeer layout.headerWidths layout.frontFields
-    layout.backFields layout.headerFields layout.headerFront layout.headerBack layout.headerOf layout.encodeHeader layout.decodeHeader layout.noRun
+    layout.decodeLink layout.peerWidths layout.peerFields layout.peerOf layout.encodePeer layout.decodePeer layout.recordAt layout.formOf layout.headerWidths
+    layout.frontFields layout.backFields layout.headerFields layout.headerFront layout.headerBack layout.headerOf layout.encodeHeader layout.decodeHeader layout.noRun
     layout.noLink layout.noPeer layout.periodOf layout.limitOf settings-octets.settingsOf settings-octets.reservedZero soundness.ownOk soundness.usable
     soundness.allKnown soundness.eachOnce soundness.groupsOk soundness.settingsOk soundness.geometryOk soundness.headerOk soundness.commitOk soundness.tokenOk soundness.rejectedOk soundness.committedOk soundness.confirmedOk soundness.runOk
     soundness.finishedOk soundness.linkOk soundness.freeOk soundness.inUseOk soundness.peerOk tables.peersOf tables.octetsOf tables.decodeTable

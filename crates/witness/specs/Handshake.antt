@@ -16,9 +16,12 @@ own B = 2 ∷ 0 ∷ 0 ∷ 0 ∷ 0 ∷ 2 ∷ []
 abbrev pub settings : List ℕ
 settings = 1 ∷ 0 ∷ 19 ∷ 0 ∷ 0 ∷ 0 ∷ 0 ∷ 0 ∷ 5 ∷ replicate 7 0
 
--- a commit as stored, and as sent; a Confirm's value
+-- a commit as a stock has it and a record stores it, and as a value has it; a Confirm's value
 abbrev pub commit : ℕ → List ℕ
 commit n = replicate 96 n ++ replicate 48 0
+
+abbrev pub filled : ℕ → List ℕ
+filled n = replicate 96 n ++ replicate 102 0
 
 abbrev pub value : ℕ → List ℕ
 value n = replicate 32 n

@@ -2,27 +2,34 @@
 use mathlib.Core.Path.{_≡_, refl, sym, ap, _∙_, subst}
 use mathlib.Core.Bool.{Bool, true, false, not}
 use mathlib.Core.List.{List}
-use mathlib.Core.Logic.{⊎-elim}
-use Prim.Native.Nat.{ℕ, _+_, _*_, _≤_}
+use mathlib.Core.Logic.{inl, inr}
+use Prim.Native.Nat.{ℕ, _+_, _-_, _≤_}
 use native.Mathlib.Omega.{arith}
-use lib.ListN.{length, take}
+use lib.ListN.{length, take, drop}
 use lib.Seq.{length-take-le}
 use borrow.Author.Tests.{eqb-true, eq-eqb, ne-eqb, not-true}
+use Rattle.octets.specs.Octets.{part}
+use Rattle.octets.proofs.Laws.{length-part}
 use Rattle.octets.proofs.Scan.{and-left}
-use Rattle.groups.specs.Groups.{commitLength}
+use Rattle.groups.specs.Groups.{width, commitLength, stored, listed}
+use Rattle.groups.proofs.Laws.{part-stored}
 use Rattle.frame.specs.Writing.{Drawn, drawCommit, drawConfirm, partsBody, Writes}
 use Rattle.frame.specs.declared.Written.{Written}
 use Rattle.frame.specs.declared.Written.the-variants as written-is
 use Rattle.frame.proofs.Laws.{outside, drawn}
 use Rattle.record.specs.declared.Header.{Header}
 use Rattle.record.specs.declared.Peer.{Peer}
-use Rattle.record.specs.Layout.{groupsOf, decodeHeader, headerOf}
+use Rattle.record.specs.Layout.{decodePeer, recordSize, recordAt, groupsOf, widthIn, decodeHeader, headerOf}
+use Rattle.record.proofs.Windows.{token-law}
 use Rattle.soundness.specs.Soundness.{highSync}
-use Rattle.soundness.proofs.Laws.{header-form, settings-form, groups-form, InUse, peer-in-use, run-states, run-is-committed, run-is-confirmed}
-use Rattle.table.specs.Table.{decodeTable, size, slot, sound, entry, belongs}
+use Rattle.soundness.proofs.Laws.{header-groups, InUse, peer-in-use, run-states, run-is-committed, run-is-confirmed}
+use Rattle.soundness.proofs.Storable.{header-room}
+use Rattle.table.specs.Table.{decodeTable, slot, sound, entry, belongs, Reached, Enters}
+use Rattle.table.specs.declared.Entrance.{Entrance}
 use Rattle.table.specs.declared.Entry.{Entry}
 use Rattle.table.specs.declared.Entry.the-variants.{Unsound, Unusable, Absent, At}
-use Rattle.table.proofs.Laws.{sound-by, sound-long, sound-header, sound-peer, entry-at, entry-ready, found-below}
+use Rattle.table.proofs.Laws.{sound-by, sound-header, sound-peer, entry-at, found-below, reached}
+use Rattle.table.proofs.Octets.{window-law, window-length}
 use Rattle.answers.specs.declared.Refusal.{Refusal}
 use Rattle.answers.specs.declared.Refusal.the-variants as why
 use Rattle.writer.specs.declared.Wrote.{Wrote}
@@ -46,7 +53,7 @@ three-groups t = refl
 
 module _ (t : List ℕ) (s : sound t ≡ true) (h : Header) (e : h ≡ decodeTable t .header) where
   pub few : h .settings .count ≤ 2
-  few = rw e (groups-form _ _ (settings-form _ (header-form _ (sound-header t s) .settings) .groups) .few)
+  few = rw e (header-groups _ (sound-header t s) .few)
 
   three : length (h .settings .groups) ≡ 3
   three = ap (λ (x : Header). length (x .settings .groups)) e ∙ three-groups t
@@ -72,34 +79,52 @@ module _ (t : List ℕ) (q x g n : ℕ) (token rest out : List ℕ) (b : Bool) (
       let m : Writes (partsBody (groupsOf (decodeTable t .header)) q x g n token rest) out left w = subst (λ (y : Header). Writes (partsBody (groupsOf y) q x g n token rest) out left w) e l in
       rw z (drawn-out _ out left w r m a)
 
--- ---- from a record: its Commit, its Confirm
+-- ---- from a record: its Commit, its Confirm, from the fields as they are read
 
-module _ (gs : List ℕ) (p : Peer) (out : List ℕ) where
-  pub commit-none : p .run .state ≡ 0 → Writes (recordCommit gs p) out out written-is.Shape
+-- as many octets as a run's token and its group's commit have lie in the record
+module _ (s : List ℕ) (W : ℕ) (B : Bounded s W) (state : ℕ) (es : state ≡ decodePeer W s .run .state) (d : state ≡ 0 → ⊥) where
+  pub token-held : (m : ℕ) (token : List ℕ) → m ≡ decodePeer W s .run .toklen → token ≡ decodePeer W s .run .token → m ≤ length token
+  token-held m token em et =
+      let l : length token ≡ 256 = ap length (et ∙ token-law W s) ∙ length-part s (7 + (13 + W + W)) 256 (omega (arith, B .size)) in
+      omega (arith, em, l, B .token (λ z. d (es ∙ z)))
+
+  pub own-held : (g n : ℕ) (own : List ℕ) → g ≡ decodePeer W s .run .group → n ≡ commitLength g → length own ≡ W → n ≤ length own
+  own-held g n own eg en l =
+      let f : commitLength g ≤ W = rw eg (B .own (λ z. d (es ∙ z))) in
+      omega (arith, en, f, l)
+
+module _ (gs : List ℕ) (p : Peer) (out : List ℕ) (state : ℕ) (es : state ≡ p .run .state) where
+  pub commit-none : state ≡ 0 → Writes (recordCommit gs p) out out written-is.Shape
   unfolding recordCommit
-  commit-none e = outside _ out (rw (eq-eqb (p .run .state) 0 e))
+  commit-none e = outside _ out (rw (eq-eqb (p .run .state) 0 (sym es ∙ e)))
 
-  pub commit-run : (n : ℕ) (left : List ℕ) (w : Written) → (p .run .state ≡ 0 → ⊥) → n ≡ commitLength (p .run .group)
-      → Writes (drawCommit gs (p .run .group) (take (p .run .toklen) (p .run .token)) (take n (p .run .own))) out left w → Writes (recordCommit gs p) out left w
-  unfolding recordCommit
-  commit-run n left w d e l = drawn _ _ out left w (rw (ne-eqb (p .run .state) 0 d, ← e)) l
+  -- of the stored commit as many octets as the group has are those of the value
+  pub commit-run : (g m n : ℕ) (token own left : List ℕ) (w : Written) → (state ≡ 0 → ⊥) → g ≡ p .run .group → m ≡ p .run .toklen → token ≡ p .run .token
+      → n ≡ commitLength g → n ≤ length own → stored own ≡ p .run .own → Writes (drawCommit gs g (take m token) (take n own)) out left w → Writes (recordCommit gs p) out left w
+  unfolding recordCommit part
+  commit-run g m n token own left w d eg em et en h eo l =
+      let o : take n (p .run .own) ≡ take n own = ap (take n) (sym eo) ∙ part-stored own n h in
+      drawn _ _ out left w (rw (ne-eqb (p .run .state) 0 (λ z. d (es ∙ z)), ← eg, ← em, ← et, ← en, o)) l
 
-module _ (p : Peer) (value out : List ℕ) where
-  pub confirm-run : (left : List ℕ) (w : Written) → p .run .state ≡ 2 → Writes (drawConfirm (p .run .sc) value) out left w → Writes (recordConfirm p value) out left w
+module _ (p : Peer) (value out : List ℕ) (state : ℕ) (es : state ≡ p .run .state) where
+  pub confirm-run : (sc : ℕ) (left : List ℕ) (w : Written) → state ≡ 2 → sc ≡ p .run .sc → Writes (drawConfirm sc value) out left w → Writes (recordConfirm p value) out left w
   unfolding recordConfirm
-  confirm-run left w e l = drawn _ _ out left w (rw (eq-eqb (p .run .state) 2 e)) l
+  confirm-run sc left w e q l = drawn _ _ out left w (rw (eq-eqb (p .run .state) 2 (sym es ∙ e), ← q)) l
 
-  pub confirm-early : (p .run .state ≡ 2 → ⊥) → (p .run .state ≡ 0 → ⊥) → Writes (recordConfirm p value) out out written-is.Shape
+  pub confirm-early : (state ≡ 2 → ⊥) → (state ≡ 0 → ⊥) → Writes (recordConfirm p value) out out written-is.Shape
   unfolding recordConfirm
-  confirm-early d e = outside _ out (rw (ne-eqb (p .run .state) 2 d, ne-eqb (p .run .state) 0 e))
+  confirm-early d e = outside _ out (rw (ne-eqb (p .run .state) 2 (λ z. d (es ∙ z)), ne-eqb (p .run .state) 0 (λ z. e (es ∙ z))))
 
-  pub confirm-link : (left : List ℕ) (w : Written) → p .run .state ≡ 0 → (p .link .finished ≡ 0 → ⊥) → Writes (drawConfirm 65535 value) out left w → Writes (recordConfirm p value) out left w
-  unfolding recordConfirm
-  confirm-link left w e d l = drawn _ _ out left w (rw (ne-eqb (p .run .state) 2 (omega arith), eq-eqb (p .run .state) 0 e, ne-eqb (p .link .finished) 0 d)) l
+  module _ (e : state ≡ 0) (finished : ℕ) (ef : finished ≡ p .link .finished) where
+    pub confirm-link : (left : List ℕ) (w : Written) → (finished ≡ 0 → ⊥) → Writes (drawConfirm 65535 value) out left w → Writes (recordConfirm p value) out left w
+    unfolding recordConfirm
+    confirm-link left w d l =
+        drawn _ _ out left w (rw (ne-eqb (p .run .state) 2 (omega (arith, es, e)), eq-eqb (p .run .state) 0 (sym es ∙ e), ne-eqb (p .link .finished) 0 (λ z. d (ef ∙ z)))) l
 
-  pub confirm-none : p .run .state ≡ 0 → p .link .finished ≡ 0 → Writes (recordConfirm p value) out out written-is.Shape
-  unfolding recordConfirm
-  confirm-none e d = outside _ out (rw (ne-eqb (p .run .state) 2 (omega arith), eq-eqb (p .run .state) 0 e, eq-eqb (p .link .finished) 0 d))
+    pub confirm-none : finished ≡ 0 → Writes (recordConfirm p value) out out written-is.Shape
+    unfolding recordConfirm
+    confirm-none d =
+        outside _ out (rw (ne-eqb (p .run .state) 2 (omega (arith, es, e)), eq-eqb (p .run .state) 0 (sym es ∙ e), eq-eqb (p .link .finished) 0 (sym ef ∙ d)))
 
 module _ (gs : List ℕ) (p : Peer) (q : ℕ) (value out : List ℕ) where
   pub body-commit : (left : List ℕ) (w : Written) → q ≡ 1 → Writes (recordCommit gs p) out left w → Writes (recordBody gs p q value) out left w
@@ -125,52 +150,74 @@ in-use-at t a k e =
     let u : slot (decodeTable t) k .used ≡ 1 = eqb-true _ _ (and-left _ _ (f .1)) in
     peer-in-use _ _ _ _ (λ z. omega arith) (sound-peer t (w .0) k (f .0))
 
-pub short-token : (own gs : List ℕ) (high : ℕ) (p : Peer) → InUse own gs high p → (p .run .state ≡ 0 → ⊥) → p .run .toklen ≤ 256
-short-token own gs high p u d =
-    ⊎-elim (λ z. absurd (d z)) (λ y. ⊎-elim (λ z. run-is-committed gs high (p .run) z (u .run) .token .short) (λ z. run-is-confirmed gs high (p .run) z (u .run) .token .short) y)
-    (run-states gs high (p .run) (u .run))
+-- what a run of it names: a listed group, and a token of at most 256 octets
+pub run-names : (own gs : List ℕ) (high : ℕ) (p : Peer) → InUse own gs high p → (p .run .state ≡ 0 → ⊥) → (listed gs (p .run .group) ≡ true) × (p .run .toklen ≤ 256)
+run-names own gs high p u d = elim (run-states gs high (p .run) (u .run)) [
+  | inl z ↦ absurd (d z)
+  | inr y ↦ elim y [
+    | inl z ↦ let w = run-is-committed gs high (p .run) z (u .run) in (w .listed, w .token .short)
+    | inr z ↦ let w = run-is-confirmed gs high (p .run) z (u .run) in (w .listed, w .token .short)
+  ]
+]
 
-module _ (t a : List ℕ) (e : Entry) (m : e ≡ entry t a) where
-  pub record-refused : (x : Entry) (c : Refusal) (q : ℕ) (value out : List ℕ) → e ≡ x → ((y : Entry) → y ≡ x → writesRecordBy y t q value out ≡ refuseOut out c)
+module _ (t a : List ℕ) (r : Entrance) (E : Enters r t a) where
+  pub record-refused : (x : Entry) (c : Refusal) (q : ℕ) (value out : List ℕ) → r .entry ≡ x → ((y : Entry) → y ≡ x → writesRecordBy y t q value out ≡ refuseOut out c)
       → LeavesOut (wrote.Refused c) out (writesRecord t a q value out)
   unfolding writesRecord
-  record-refused x c q value out k f = rw (f (entry t a) (sym m ∙ k)) (record { answer = refl; out = refl })
+  record-refused x c q value out k f = rw (f (entry t a) (sym (E .entry) ∙ k)) (record { answer = refl; out = refl })
 
   module _ (q : ℕ) (value out : List ℕ) where
-    pub record-unsound : e ≡ Unsound → LeavesOut (wrote.Refused why.Unsound) out (writesRecord t a q value out)
+    pub record-unsound : r .entry ≡ Unsound → LeavesOut (wrote.Refused why.Unsound) out (writesRecord t a q value out)
     unfolding writesRecordBy
     record-unsound k = record-refused Unsound why.Unsound q value out k (λ y z. rw z)
 
-    pub record-unusable : e ≡ Unusable → LeavesOut (wrote.Refused why.Address) out (writesRecord t a q value out)
+    pub record-unusable : r .entry ≡ Unusable → LeavesOut (wrote.Refused why.Address) out (writesRecord t a q value out)
     unfolding writesRecordBy
     record-unusable k = record-refused Unusable why.Address q value out k (λ y z. rw z)
 
-    pub record-absent : e ≡ Absent → LeavesOut (wrote.Refused why.Body) out (writesRecord t a q value out)
+    pub record-absent : r .entry ≡ Absent → LeavesOut (wrote.Refused why.Body) out (writesRecord t a q value out)
     unfolding writesRecordBy
     record-absent k = record-refused Absent why.Body q value out k (λ y z. rw z)
 
-  module _ (k : ℕ) (at : e ≡ At k) where
+  module _ (k : ℕ) (at : r .entry ≡ At k) where
     here : entry t a ≡ At k
-    here = sym m ∙ at
+    here = sym (E .entry) ∙ at
 
     pub at-sound : sound t ≡ true
     at-sound = entry-at t a k here .0
 
-    pub at-long : 32 ≤ length t
-    at-long = sound-long t at-sound
+    pub at-header : r .header ≡ decodeTable t .header
+    at-header = E .header at-sound
 
-    pub at-fits : 32 + size * k + size ≤ length t
-    at-fits = entry-ready t a k here .fits
+    module _ (w : ℕ) (W : (w ≡ widthIn (r .header)) × (w ≤ width)) where
+      pub at-reached : Reached t w k
+      at-reached = reached t (r .header) w k at-sound at-header (W .0) (W .1) (found-below (decodeTable t) a k (entry-at t a k here .1 .1) .0)
 
-    pub at-bounded : (p : Peer) → p ≡ slot (decodeTable t) k → Bounded p
-    at-bounded p ep =
-        record { token = subst (λ (x : Peer). (x .run .state ≡ 0 → ⊥) → x .run .toklen ≤ 256) (sym ep) (short-token _ _ _ _ (in-use-at t a k here)) }
+      roomy : (g : ℕ) → listed (groupsOf (decodeTable t .header)) g ≡ true → commitLength g ≤ w
+      roomy g l = rw (W .0, at-header) (header-room _ (sound-header t at-sound) .each g l)
 
-    pub record-drawn : (h : Header) (p : Peer) (q : ℕ) (value out left : List ℕ) (w : Written) (r : Wrote) → h ≡ decodeTable t .header → p ≡ slot (decodeTable t) k
-        → Writes (recordBody (groupsOf h) p q value) out left w → r ≡ wroteOf w → LeavesOut r left (writesRecord t a q value out)
-    unfolding writesRecord writesRecordBy
-    record-drawn h p q value out left w r eh ep l z =
-        let l1 : Writes (recordBody (groupsOf (decodeTable t .header)) p q value) out left w = subst (λ (x : Header). Writes (recordBody (groupsOf x) p q value) out left w) eh l in
-        let l2 : Writes (recordBody (groupsOf (decodeTable t .header)) (slot (decodeTable t) k) q value) out left w =
-        subst (λ (x : Peer). Writes (recordBody (groupsOf (decodeTable t .header)) x q value) out left w) ep l1 in
-        rw here (drawn-out _ out left w r l2 z)
+      -- the window of its octets, as it is lent
+      module _ (b n : ℕ) (eb : b ≡ recordAt w k) (en : n ≡ recordSize w) where
+        in-window : decodePeer w (take (b + n - b) (drop b t)) ≡ slot (decodeTable t) k
+        in-window = window-law t w k b at-reached eb n en
+
+        pub at-bounded : Bounded (take (b + n - b) (drop b t)) w
+        at-bounded =
+            let u : (slot (decodeTable t) k .run .state ≡ 0 → ⊥) → (listed (groupsOf (decodeTable t .header)) (slot (decodeTable t) k .run .group) ≡ true) × (slot (decodeTable t) k .run .toklen ≤ 256) =
+            run-names _ _ _ _ (in-use-at t a k here) in
+            record {
+              size = window-length t w k b at-reached eb n en;
+              most = W .1;
+              token = subst (λ (x : Peer). (x .run .state ≡ 0 → ⊥) → x .run .toklen ≤ 256) (sym in-window) (λ d. u d .1);
+              own = subst (λ (x : Peer). (x .run .state ≡ 0 → ⊥) → commitLength (x .run .group) ≤ w) (sym in-window) (λ d. roomy _ (u d .0));
+            }
+
+        pub record-drawn : (q : ℕ) (value out left : List ℕ) (y : Written) (z : Wrote)
+            → Writes (recordBody (groupsOf (r .header)) (decodePeer w (take (b + n - b) (drop b t))) q value) out left y → z ≡ wroteOf y → LeavesOut z left (writesRecord t a q value out)
+        unfolding writesRecord writesRecordBy
+        record-drawn q value out left y z l e =
+            let l1 : Writes (recordBody (groupsOf (decodeTable t .header)) (decodePeer w (take (b + n - b) (drop b t))) q value) out left y =
+            subst (λ (x : Header). Writes (recordBody (groupsOf x) (decodePeer w (take (b + n - b) (drop b t))) q value) out left y) at-header l in
+            let l2 : Writes (recordBody (groupsOf (decodeTable t .header)) (slot (decodeTable t) k) q value) out left y =
+            subst (λ (x : Peer). Writes (recordBody (groupsOf (decodeTable t .header)) x q value) out left y) in-window l1 in
+            rw here (drawn-out _ out left y z l2 e)

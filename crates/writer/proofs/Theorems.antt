@@ -3,8 +3,7 @@
 use mathlib.Core.Path.{_≡_, refl, sym, ap, _∙_}
 use mathlib.Core.Bool.{Bool, true, false, not}
 use mathlib.Core.List.{List, []}
-use mathlib.Core.Logic.{inl, inr}
-use Prim.Native.Nat.{ℕ, _+_, _*_, _≤_, _<_}
+use Prim.Native.Nat.{ℕ, _+_, _≤_, _<_}
 use native.Mathlib.Omega.{arith}
 use lib.Dec.{ltb}
 use lib.ListN.{length, take}
@@ -22,11 +21,11 @@ use Rattle.frame.specs.Writing.{Drawn, Octets, Outside, drawCommit, drawConfirm
 use Rattle.frame.proofs.Laws.{length-body}
 use Rattle.frame.proofs.RoundTrip.{commit-reads, commit-token-back, commit-back, confirm-reads, confirm-back}
 use Rattle.record.specs.declared.Peer.{Peer}
-use Rattle.record.specs.Layout.{groupsOf}
+use Rattle.record.specs.Layout.{recordAt, groupsOf}
 use Rattle.record.proofs.Laws.{FitPeer}
 use Rattle.soundness.specs.Soundness.{usable, highSync}
-use Rattle.soundness.proofs.Laws.{InUse, run-states, run-is-committed, run-is-confirmed}
-use Rattle.table.specs.Table.{decodeTable, size, slot, slots, sound, entry, foundEntry, finds}
+use Rattle.soundness.proofs.Laws.{InUse}
+use Rattle.table.specs.Table.{widthOf, decodeTable, slot, slots, sound, entry, foundEntry, finds}
 use Rattle.table.specs.declared.Entry.the-variants.{Unsound, Unusable, At}
 use Rattle.table.proofs.Laws.{sound-whole, peers-held, entry-at, found-below}
 use Rattle.table.proofs.Fit.{fit-decoded, fit-slot}
@@ -34,7 +33,7 @@ use Rattle.answers.specs.declared.Refusal.{Refusal}
 use Rattle.answers.specs.declared.Refusal.the-variants as why
 use Rattle.writer.specs.declared.Wrote.the-variants as wrote
 use Rattle.writer.specs.Writer.{LeftOut, refuseOut, draws, writesParts, recordCommit, recordConfirm, recordBody, writesRecordBy, writesRecord}
-use Rattle.writer.proofs.Laws.{in-use-at}
+use Rattle.writer.proofs.Laws.{in-use-at, run-names}
 
 -- ---- the causes, in order, and what is written where none holds
 
@@ -153,7 +152,7 @@ module _ (t a : List ℕ) (k : ℕ) (e : entry t a ≡ At k) where
   pub fits : Bytes t → FitPeer width here
   fits b =
       let w = entry-at t a k e in
-      let l : length t ≡ 32 + size * slots (decodeTable t) = sound-whole t (w .0) in
+      let l : length t ≡ recordAt (widthOf t) (slots (decodeTable t)) = sound-whole t (w .0) in
       let n : length (decodeTable t .peers) ≡ slots (decodeTable t) = peers-held t (slots (decodeTable t)) l in
       let f : k < slots (decodeTable t) = found-below (decodeTable t) a k (w .1 .1) .0 in
       fit-slot (decodeTable t) k (fit-decoded t (slots (decodeTable t)) b l) (omega arith)
@@ -167,13 +166,7 @@ module _ (t a : List ℕ) (k : ℕ) (e : entry t a ≡ At k) where
     own = take (commitLength (here .run .group)) (here .run .own)
 
     supported : (listed list (here .run .group) ≡ true) × (here .run .toklen ≤ 256)
-    supported = elim (run-states list (highSync (decodeTable t .header)) (here .run) (in-use .run)) [
-      | inl z ↦ absurd (run z)
-      | inr y ↦ elim y [
-        | inl z ↦ let w = run-is-committed list (highSync (decodeTable t .header)) (here .run) z (in-use .run) in (w .listed, w .token .short)
-        | inr z ↦ let w = run-is-confirmed list (highSync (decodeTable t .header)) (here .run) z (in-use .run) in (w .listed, w .token .short)
-      ]
-    ]
+    supported = run-names _ _ _ _ in-use run
 
     token-length : length token ≡ here .run .toklen
     token-length = let l : length (here .run .token) ≡ 256 = fits b .run .shape .token in let m : here .run .toklen ≤ 256 = supported .1 in length-take-le _ _ (omega arith)

@@ -6,12 +6,12 @@ use Prim.Native.Nat.{ℕ, _≤_}
 use lib.Dec.{eqb}
 use lib.ListN.{length, take}
 use Rattle.octets.specs.Scan.{if_then_else_}
-use Rattle.groups.specs.Groups.{commitLength}
+use Rattle.groups.specs.Groups.{width, commitLength}
 use Rattle.frame.specs.Writing.{Drawn, Outside, drawCommit, drawConfirm, partsBody, written, leaves}
 use Rattle.frame.specs.declared.Written.{Written}
 use Rattle.frame.specs.declared.Written.the-variants as written-is
 use Rattle.record.specs.declared.Peer.{Peer}
-use Rattle.record.specs.Layout.{groupsOf}
+use Rattle.record.specs.Layout.{decodePeer, recordSize, groupsOf}
 use Rattle.table.specs.Table.{Table, decodeTable, slot, sound, entry}
 use Rattle.table.specs.declared.Entry.{Entry}
 use Rattle.table.specs.declared.Entry.the-variants.{Unsound, Unusable, Absent, At}
@@ -72,9 +72,13 @@ recordBody groups p sequence value =
     else if sequence is 2 then recordConfirm p value
     else Outside
 
--- what the writer of a record asks of it, and a record of a sound table has: a run's token of at most 256 octets
-pub record Bounded (p : Peer) : Type 0 where
-  pub token : (p .run .state ≡ 0 → ⊥) → p .run .toklen ≤ 256
+-- what the writer of a record asks of its octets, and those of a sound table's record have: their length, a width that values have room for, and of a run
+-- a token of at most 256 octets and a group whose commits the width has room for
+pub record Bounded (s : List ℕ) (W : ℕ) : Type 0 where
+  pub size : length s ≡ recordSize W
+  pub most : W ≤ width
+  pub token : (decodePeer W s .run .state ≡ 0 → ⊥) → decodePeer W s .run .toklen ≤ 256
+  pub own : (decodePeer W s .run .state ≡ 0 → ⊥) → commitLength (decodePeer W s .run .group) ≤ W
 
 unfoldable pub writesRecordBy : Entry → List ℕ → ℕ → List ℕ → List ℕ → LeftOut
 writesRecordBy Unsound t sequence value out = refuseOut out why.Unsound

@@ -1,10 +1,13 @@
 // The writer: a frame from its parts, or from a peer's record, into a lent buffer.
 ghost use mathlib.Core.Path.{_≡_};
 ghost use Rattle.frame.specs.Writing.{Writes};
+ghost use Prim.Native.Nat.{_≤_};
+ghost use lib.ListN.{length};
+ghost use Rattle.groups.specs.Groups.{width};
+ghost use Rattle.record.specs.Layout.{decodePeer, recordSize};
 ghost use Rattle.writer.specs.Writer.{LeavesOut, wroteOf, writesParts, recordCommit, recordConfirm, recordBody, Bounded, writesRecord};
 use answers::Refusal;
 use frame::Written;
-use record::Peer;
 use table::Entry;
 
 // What a writer answers: the length written, or a refusal.
@@ -44,7 +47,7 @@ pub fn write_parts(
     let h = c.header;
     let list = h.settings.groups;
     let n = h.settings.count as usize;
-    let w = frame::write_parts(
+    let written = frame::write_parts(
         &list[..n],
         sequence,
         status,
@@ -54,53 +57,63 @@ pub fn write_parts(
         rest,
         out,
     );
-    wrote_of(w)
+    wrote_of(written)
 }
 
 // The run's Commit.
-fn write_run_commit(groups: &[u16], p: Peer, out: &mut [u8]) -> Written
-    requires { ⌜ Bounded p ⌝ }
-    ensures { λ r. ⌜ Writes (recordCommit (now (groups .entry)) p) (now (out .entry)) (now (out .exit)) r ⌝ }
+fn write_run_commit(groups: &[u16], s: &[u8], w: usize, out: &mut [u8]) -> Written
+    requires { ⌜ Bounded (now s) w ⌝ }
+    ensures { λ r. ⌜ Writes (recordCommit (now (groups .entry)) (decodePeer w (now (s .entry)))) (now (out .entry)) (now (out .exit)) r ⌝ }
 {
-    let run = p.run;
-    if run.state == 0 {
+    let state = record::state_of(s, w);
+    if state == 0 {
         return Written::Shape;
     }
-    let token = run.token;
-    let m = run.toklen as usize;
-    let own = run.own;
-    let l = groups::commit_length(run.group);
-    frame::write_commit(groups, run.group, &token[..m], &own[..l], out)
+    let group = record::group_of(s, w);
+    let token = record::token_of(s, w);
+    let m = record::toklen_of(s, w) as usize;
+    let own = record::own_of(s, w);
+    let l = groups::commit_length(group);
+    frame::write_commit(groups, group, &token[..m], &own[..l], out)
 }
 
 // The Confirm: Sc of a run in Confirmed, 65,535 of a link with no run.
-fn write_record_confirm(p: Peer, value: &[u8], out: &mut [u8]) -> Written
-    ensures { λ r. ⌜ Writes (recordConfirm p (now (value .entry))) (now (out .entry)) (now (out .exit)) r ⌝ }
+fn write_record_confirm(s: &[u8], w: usize, value: &[u8], out: &mut [u8]) -> Written
+    requires { ⌜ (length (now s) ≡ recordSize w) × (w ≤ width) ⌝ }
+    ensures { λ r. ⌜ Writes (recordConfirm (decodePeer w (now (s .entry))) (now (value .entry))) (now (out .entry)) (now (out .exit)) r ⌝ }
 {
-    let run = p.run;
-    let link = p.link;
-    if run.state == 2 {
-        return frame::write_confirm(run.sc, value, out);
+    let state = record::state_of(s, w);
+    if state == 2 {
+        let sc = record::sc_of(s, w);
+        return frame::write_confirm(sc, value, out);
     }
-    if run.state != 0 {
+    if state != 0 {
         return Written::Shape;
     }
-    if link.finished != 0 {
+    let finished = record::finished_of(s, w);
+    if finished != 0 {
         return frame::write_confirm(65535, value, out);
     }
     Written::Shape
 }
 
 // Which of a record's frames is wanted.
-fn write_peer(groups: &[u16], p: Peer, sequence: u16, value: &[u8], out: &mut [u8]) -> Written
-    requires { ⌜ Bounded p ⌝ }
-    ensures { λ r. ⌜ Writes (recordBody (now (groups .entry)) p sequence (now (value .entry))) (now (out .entry)) (now (out .exit)) r ⌝ }
+fn write_peer(
+    groups: &[u16],
+    s: &[u8],
+    w: usize,
+    sequence: u16,
+    value: &[u8],
+    out: &mut [u8],
+) -> Written
+    requires { ⌜ Bounded (now s) w ⌝ }
+    ensures { λ r. ⌜ Writes (recordBody (now (groups .entry)) (decodePeer w (now (s .entry))) sequence (now (value .entry))) (now (out .entry)) (now (out .exit)) r ⌝ }
 {
     if sequence == 1 {
-        return write_run_commit(groups, p, out);
+        return write_run_commit(groups, s, w, out);
     }
     if sequence == 2 {
-        return write_record_confirm(p, value, out);
+        return write_record_confirm(s, w, value, out);
     }
     Written::Shape
 }
@@ -125,9 +138,11 @@ pub fn write_record(
         Entry::At(k) => {
             let list = h.settings.groups;
             let n = h.settings.count as usize;
-            let p = table::load_peer(t, k);
-            let w = write_peer(&list[..n], p, sequence, value, out);
-            wrote_of(w)
+            let w = record::width_of(h);
+            let a = record::record_at(w, k);
+            let e = a + record::record_size(w);
+            let written = write_peer(&list[..n], &t[a..e], w, sequence, value, out);
+            wrote_of(written)
         }
     }
 }

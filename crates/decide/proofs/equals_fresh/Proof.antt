@@ -1,7 +1,8 @@
+use Rattle.octets.proofs.Laws.{prefix-count}
+use Rattle.decide.proofs.Rungs.{same-commit-law}
 use borrow.Author.Needs.{needs}
 use Rattle.decide.proofs.equals_fresh.Statement.{statement}
 use Rattle.decide.proofs.equals_fresh.Tie as tie
-use Rattle.decide.proofs.equals_fresh.Reads as reads
 
 commit-requires : tie.Need-commit-requires
 commit-requires c κs = search needs
@@ -9,17 +10,17 @@ commit-requires c κs = search needs
 fresh-for-requires : tie.Need-fresh-for-requires
 fresh-for-requires c κs = search needs
 
-slice-aggregate-is-same : tie.Need-slice-aggregate-is-same
-slice-aggregate-is-same c = search needs
+array-share-prefix-heard : tie.Need-array-share-prefix-heard
+array-share-prefix-heard c = search needs
 
-slice-aggregate-is-same-2 : tie.Need-slice-aggregate-is-same-2
-slice-aggregate-is-same-2 c = search needs
+slice-aggregate-same-stored : tie.Need-slice-aggregate-same-stored
+slice-aggregate-same-stored c = prefix-count _ _ (search needs)
 
-is-same-requires : tie.Need-is-same-requires
-is-same-requires c κs = search needs
+same-stored-requires : tie.Need-same-stored-requires
+same-stored-requires c κs = search needs
 
 returns : tie.Need-returns
-returns c = cc
+returns c = same-commit-law _ _ _ _ _ _ (search needs) (c .before .before .before .commit .ensures) (search needs) (c .before .before .fresh-for .ensures .0) (c .before .before .fresh-for .ensures .1) (c .same-stored .ensures)
 
 pub equals-fresh-spec : {M : Type 1} → statement M
 equals-fresh-spec =
@@ -27,7 +28,7 @@ equals-fresh-spec =
     (tie.spec
     commit-requires
     fresh-for-requires
-    slice-aggregate-is-same
-    slice-aggregate-is-same-2
-    is-same-requires
+    array-share-prefix-heard
+    slice-aggregate-same-stored
+    same-stored-requires
     returns)

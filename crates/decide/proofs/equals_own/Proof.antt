@@ -1,48 +1,34 @@
-use Rattle.octets.specs.Octets.{part}
-use Rattle.record.proofs.Windows.{own-law}
+use Rattle.octets.proofs.Laws.{prefix-count}
+use Rattle.decide.proofs.Rungs.{same-commit-law}
 use borrow.Author.Needs.{needs}
 use Rattle.decide.proofs.equals_own.Statement.{statement}
 use Rattle.decide.proofs.equals_own.Tie as tie
-use Rattle.decide.proofs.equals_own.Reads as reads
 
 commit-requires : tie.Need-commit-requires
 commit-requires c κs = search needs
 
-add-a : tie.Need-add-a
-add-a c = search needs
+own-of-requires : tie.Need-own-of-requires
+own-of-requires c κs = search needs
 
-add-e : tie.Need-add-e
-add-e c = search needs
+array-share-prefix-heard : tie.Need-array-share-prefix-heard
+array-share-prefix-heard c = search needs
 
-slice-aggregate-is-same : tie.Need-slice-aggregate-is-same
-slice-aggregate-is-same c = search needs
+slice-aggregate-same-stored : tie.Need-slice-aggregate-same-stored
+slice-aggregate-same-stored c = prefix-count _ _ (search needs)
 
-sub-is-same : tie.Need-sub-is-same
-sub-is-same c = search needs
-
-part-is-same-start : tie.Need-part-is-same-start
-part-is-same-start c = search needs
-
-part-is-same-end : tie.Need-part-is-same-end
-part-is-same-end c = search needs
-
-is-same-requires : tie.Need-is-same-requires
-is-same-requires c κs = search needs
+same-stored-requires : tie.Need-same-stored-requires
+same-stored-requires c κs = search needs
 
 returns : tie.Need-returns
-unfolding part
-returns c = rw (own-law _, ← c .before .before .before .commit .ensures) (c .is-same .ensures)
+returns c = same-commit-law _ _ _ _ _ _ (search needs) (c .before .before .before .commit .ensures) (search needs) (c .before .before .own-of .ensures .0) (c .before .before .own-of .ensures .1) (c .same-stored .ensures)
 
 pub equals-own-spec : {M : Type 1} → statement M
 equals-own-spec =
     tie.close
     (tie.spec
     commit-requires
-    add-a
-    add-e
-    slice-aggregate-is-same
-    sub-is-same
-    part-is-same-start
-    part-is-same-end
-    is-same-requires
+    own-of-requires
+    array-share-prefix-heard
+    slice-aggregate-same-stored
+    same-stored-requires
     returns)

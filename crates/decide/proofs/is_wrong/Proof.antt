@@ -1,4 +1,5 @@
-use Rattle.decide.proofs.Rungs.{unasked, wrong-law, prefix-count}
+use Rattle.octets.proofs.Laws.{prefix-count}
+use Rattle.decide.proofs.Rungs.{unasked, wrong-law}
 use borrow.Author.Needs.{needs}
 use Rattle.decide.proofs.is_wrong.Statement.{statement}
 use Rattle.decide.proofs.is_wrong.Tie as tie
@@ -16,7 +17,7 @@ array-share-prefix-token : tie.Need-array-share-prefix-token
 array-share-prefix-token c = search needs
 
 slice-aggregate-is-same : tie.Need-slice-aggregate-is-same
-slice-aggregate-is-same c = prefix-count _ _ (search needs) (search needs)
+slice-aggregate-is-same c = prefix-count _ _ (search needs)
 
 slice-aggregate-is-same-2 : tie.Need-slice-aggregate-is-same-2
 slice-aggregate-is-same-2 c = search needs

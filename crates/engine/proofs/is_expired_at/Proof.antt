@@ -6,11 +6,11 @@ use borrow.Author.Needs.{needs}
 use Rattle.engine.proofs.is_expired_at.Statement.{statement}
 use Rattle.engine.proofs.is_expired_at.Tie as tie
 
-mul-a : tie.Need-mul-a
-mul-a c = search needs
+record-at-requires : tie.Need-record-at-requires
+record-at-requires c κs = search needs
 
-add-a : tie.Need-add-a
-add-a c = search needs
+record-size-requires : tie.Need-record-size-requires
+record-size-requires c κs = search needs
 
 add-e : tie.Need-add-e
 add-e c = search needs
@@ -28,14 +28,19 @@ is-expired-requires : tie.Need-is-expired-requires
 is-expired-requires c κs = search needs
 
 returns : tie.Need-returns
-returns c = c .is-expired .ensures ∙ ap (λ (p : Peer). expired p (c .before .before .before .args .time)) (window-law (c .before .before .before .args .t .now) (c .before .before .before .args .k) (c .before .before .before .pre))
+returns c =
+    let s = c .before .before .before .before .before in
+    c .is-expired .ensures
+    ∙ ap (λ (p : Peer). expired p (s .args .time))
+    (window-law (s .args .t .now) (s .args .w) (s .args .k) _ (s .pre) (c .before .before .before .record-at .ensures) _
+    (c .before .before .record-size .ensures))
 
 pub is-expired-at-spec : {M : Type 1} → statement M
 is-expired-at-spec =
     tie.close
     (tie.spec
-    mul-a
-    add-a
+    record-at-requires
+    record-size-requires
     add-e
     sub-is-expired
     part-is-expired-start

@@ -1,5 +1,5 @@
 use Rattle.engine.proofs.Headers.{enters-met, met-listing}
-use Rattle.engine.proofs.Frames.{given-brought, receive-refused, receive-goes, receive-went}
+use Rattle.engine.proofs.Frames.{frame-fitting, given-brought, receive-refused, receive-goes, receive-went}
 use borrow.Author.Needs.{needs}
 use Rattle.engine.proofs.receive.Statement.{statement}
 use Rattle.engine.proofs.receive.Tie as tie
@@ -26,7 +26,14 @@ given-of-requires : tie.Need-given-of-requires
 given-of-requires c κs = search needs
 
 hear-requires : tie.Need-hear-requires
-hear-requires c κs = let G = receive-goes _ _ _ _ _ _ (c .before .before .before .before .before .before .before .before .before .enter .result) (c .before .before .before .before .before .before .before .before .before .enter .ensures) (c .before .before .before .before .before .before .before .frame-turn .result) (c .before .before .before .before .before .before .before .frame-turn .ensures) _ (c .before .before .before .before .turn2 .given .1) in (G .held, (G .stock, (given-brought _ _ _ _ _ _ (c .before .given-of .ensures), c .before .before .before .before .before .before .before .frame-turn .ensures .short)))
+hear-requires c κs =
+    let K = c .before .before .before .before .before .before .before .frame-turn .ensures in
+    let G =
+    receive-goes _ _ _ _ _ _ (c .before .before .before .before .before .before .before .before .before .enter .result)
+    (c .before .before .before .before .before .before .before .before .before .enter .ensures)
+    (c .before .before .before .before .before .before .before .frame-turn .result) K _ (c .before .before .before .before .turn2 .given .1) in
+    let F = frame-fitting _ _ _ (G .stock .header) (K .view _ (c .before .before .before .before .turn2 .given .1)) (K .short) in
+    (G .held, (G .stock, (given-brought _ _ _ _ _ _ (c .before .given-of .ensures), F)))
 
 same-length : tie.Need-same-length
 same-length c = search needs

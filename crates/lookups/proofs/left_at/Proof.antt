@@ -6,11 +6,11 @@ use borrow.Author.Needs.{needs}
 use Rattle.lookups.proofs.left_at.Statement.{statement}
 use Rattle.lookups.proofs.left_at.Tie as tie
 
-mul-a : tie.Need-mul-a
-mul-a c = search needs
+record-at-requires : tie.Need-record-at-requires
+record-at-requires c κs = search needs
 
-add-a : tie.Need-add-a
-add-a c = search needs
+record-size-requires : tie.Need-record-size-requires
+record-size-requires c κs = search needs
 
 add-e : tie.Need-add-e
 add-e c = search needs
@@ -29,15 +29,16 @@ peer-left-requires c κs = search needs
 
 returns : tie.Need-returns
 returns c =
-    let s = c .before .before .before in
-    c .peer-left .ensures ∙ ap (λ (p : Peer). peerLeft p (s .args .time)) (window-law (s .args .t .now) (s .args .k) (s .pre))
+    let s = c .before .before .before .before .before in
+    c .peer-left .ensures
+    ∙ ap (λ (p : Peer). peerLeft p (s .args .time)) (window-law (s .args .t .now) (s .args .w) (s .args .k) _ (s .pre) (c .before .before .before .record-at .ensures) _ (c .before .before .record-size .ensures))
 
 pub left-at-spec : {M : Type 1} → statement M
 left-at-spec =
     tie.close
     (tie.spec
-    mul-a
-    add-a
+    record-at-requires
+    record-size-requires
     add-e
     sub-peer-left
     part-peer-left-start

@@ -1,3 +1,4 @@
+use Rattle.table.proofs.Laws.{reach}
 use Prim.Native.Nat.{_≤_, _-_}
 use mathlib.Core.Path.{_≡_}
 use Rattle.table.specs.Table.{decodeTable, slot}
@@ -8,16 +9,16 @@ use Rattle.lookups.proofs.left_below.Statement.{statement}
 use Rattle.lookups.proofs.left_below.Tie as tie
 
 abbrev Inv-loop : tie.InvT-loop
-Inv-loop t n time least₀ i₀ least i = (i ≤ n) × (least ≡ leastBelow (λ k. peerLeft (slot (decodeTable t) k) time) i)
+Inv-loop t w n time least₀ i₀ least i = (i ≤ n) × (least ≡ leastBelow (λ k. peerLeft (slot (decodeTable t) k) time) i)
 
 abbrev μ-loop : tie.MeasureT-loop
-μ-loop t n time least₀ i₀ least i = n - i
+μ-loop t w n time least₀ i₀ least i = n - i
 
 loop-holds : tie.Need-loop-holds Inv-loop μ-loop
 loop-holds c = (search needs, least-none _)
 
 left-at-requires : tie.Need-left-at-requires Inv-loop μ-loop
-left-at-requires c κs = search needs
+left-at-requires c κs = let a = c .before .before .before in reach (a .args .t .now) (a .args .w) (a .args .n) (c .before .loop .i) (a .pre) (c .loop-test .taken)
 
 lesser-of-requires : tie.Need-lesser-of-requires Inv-loop μ-loop
 lesser-of-requires c κs = search needs

@@ -1,3 +1,4 @@
+use Rattle.groups.proofs.Laws.{room-in}
 use Rattle.perform.proofs.Performs.{begin-law}
 use borrow.Author.Needs.{needs}
 use Rattle.perform.proofs.begin.Statement.{statement}
@@ -7,7 +8,7 @@ shared-slice-read-group : tie.Need-shared-slice-read-group
 shared-slice-read-group c = search needs
 
 fresh-at-requires : tie.Need-fresh-at-requires
-fresh-at-requires c κs = search needs
+fresh-at-requires c κs = let k = c .before .before .before .before in let q = k .pre .1 .1 .1 in (q .wide, room-in _ _ _ _ (q .some) (q .each))
 
 start-requires : tie.Need-start-requires
 start-requires c κs = search needs
@@ -16,7 +17,11 @@ same-length : tie.Need-same-length
 same-length c = search needs
 
 returns : tie.Need-returns
-returns c = begin-law _ _ _ _ _ (c .before .before .before .before .before .before .before .before .before .args .groups .now) _ (c .before .before .before .before .before .before .before .before .before .args .clock) (c .before .before .before .before .fresh-at .ensures) (c .before .before .start .ensures)
+returns c =
+    let d = c .before .before in
+    let e = d .before .before in
+    let k = e .before .before .before .before .before in
+    begin-law _ _ _ _ _ _ (k .args .groups .now) _ (k .args .clock) (e .fresh-at .ensures .1) (d .start .ensures)
 
 pub begin-spec : {M : Type 1} → statement M
 begin-spec =

@@ -19,7 +19,7 @@ same-length : tie.Need-same-length
 same-length c = search needs
 
 returns : tie.Need-returns
-returns c = confirm-again-law _ _ _ _ _ _ (c .before .before .before .before .before .sc-of .ensures) (c .before .before .before .before .confirm-frame .ensures) (c .before .before .retransmit .ensures)
+returns c = let d = c .before .before in let e = d .before .before in let f = e .before in confirm-again-law _ _ _ _ _ _ _ (f .sc-of .ensures) (e .confirm-frame .ensures) (d .retransmit .ensures)
 
 pub confirm-again-spec : {M : Type 1} → statement M
 confirm-again-spec =

@@ -3,6 +3,12 @@ use borrow.Author.Needs.{needs}
 use Rattle.perform.proofs.hear.Statement.{statement}
 use Rattle.perform.proofs.hear.Tie as tie
 
+link-at-requires : tie.Need-link-at-requires
+link-at-requires c κs = search needs
+
+record-size-requires : tie.Need-record-size-requires
+record-size-requires c κs = search needs
+
 sub-hear-link : tie.Need-sub-hear-link
 sub-hear-link c = search needs
 
@@ -22,12 +28,19 @@ same-length : tie.Need-same-length
 same-length c = search needs
 
 returns : tie.Need-returns
-returns c = hear-law _ _ _ _ _ _ (c .before .before .before .before .before .before .pre) (search needs) (c .before .before .before .hear-link .ensures) (c .say-frames .ensures)
+returns c =
+    let d = c .before .before .before in
+    let e = d .before .before in
+    let f = e .before in
+    let k = f .before .before in
+    hear-law _ _ _ (f .link-at .ensures) (e .record-size .ensures) _ _ _ _ _ _ (k .pre .0) (search needs) (d .hear-link .ensures) (c .say-frames .ensures)
 
 pub hear-spec : {M : Type 1} → statement M
 hear-spec =
     tie.close
     (tie.spec
+    link-at-requires
+    record-size-requires
     sub-hear-link
     part-hear-link-start
     part-hear-link-end

@@ -19,7 +19,7 @@ same-length : tie.Need-same-length
 same-length c = search needs
 
 returns : tie.Need-returns
-returns c = hear-again-law _ _ _ _ _ _ (c .before .before .before .before .before .link-sync-of .ensures) (c .before .before .before .before .confirm-frame .ensures) (c .before .before .hear .ensures)
+returns c = let d = c .before .before in let e = d .before .before in let f = e .before in hear-again-law _ _ _ _ _ _ _ (f .link-sync-of .ensures) (e .confirm-frame .ensures) (d .hear .ensures)
 
 pub hear-again-spec : {M : Type 1} → statement M
 hear-again-spec =

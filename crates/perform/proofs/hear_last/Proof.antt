@@ -13,7 +13,7 @@ same-length : tie.Need-same-length
 same-length c = search needs
 
 returns : tie.Need-returns
-returns c = hear-last-law _ _ _ _ _ (c .before .before .before .before .link-sync-of .ensures) (c .before .before .hear .ensures)
+returns c = let d = c .before .before in let e = d .before .before in hear-last-law _ _ _ _ _ _ (e .link-sync-of .ensures) (d .hear .ensures)
 
 pub hear-last-spec : {M : Type 1} → statement M
 hear-last-spec = tie.close (tie.spec link-sync-of-requires hear-requires same-length returns)

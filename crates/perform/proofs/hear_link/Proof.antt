@@ -13,7 +13,11 @@ same-length : tie.Need-same-length
 same-length c = search needs
 
 returns : tie.Need-returns
-returns c = hear-link-law _ _ _ _ _ (c .before .before .before .before .before .before .before .before .before .pre) (search needs) (search needs) (c .before .before .before .before .before .before .put8 .ensures) (c .before .before .put16 .ensures)
+returns c =
+    let d = c .before .before in
+    let e = d .before .before .before .before in
+    let k = e .before .before .before in
+    hear-link-law _ _ _ _ _ _ (k .pre) (search needs) (search needs) (e .put8 .ensures) (d .put16 .ensures)
 
 pub hear-link-spec : {M : Type 1} → statement M
 hear-link-spec = tie.close (tie.spec put8-requires put16-requires same-length returns)

@@ -19,7 +19,12 @@ same-length : tie.Need-same-length
 same-length c = search needs
 
 returns : tie.Need-returns
-returns c = repeat-commit-law _ _ _ _ _ _ _ (c .before .before .before .before .before .before .before .group-of .ensures) (c .before .before .before .before .before .sc-of .ensures) (c .before .before .before .before .commit-frame .ensures) (c .before .before .retransmit .ensures)
+returns c =
+    let d = c .before .before in
+    let e = d .before .before in
+    let f = e .before in
+    let g = f .before .before in
+    repeat-commit-law _ _ _ _ _ _ _ _ (g .group-of .ensures) (f .sc-of .ensures) (e .commit-frame .ensures) (d .retransmit .ensures)
 
 pub repeat-commit-spec : {M : Type 1} → statement M
 repeat-commit-spec =

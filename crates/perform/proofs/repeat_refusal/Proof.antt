@@ -16,7 +16,11 @@ same-length : tie.Need-same-length
 same-length c = search needs
 
 returns : tie.Need-returns
-returns c = repeat-refusal-law _ _ _ _ _ _ _ (c .before .before .before .before .before .sc-of .ensures) (c .before .before .before .before .group-refusal-frame .ensures) (c .before .before .retransmit .ensures)
+returns c =
+    let d = c .before .before in
+    let e = d .before .before in
+    let f = e .before in
+    repeat-refusal-law _ _ _ _ _ _ _ _ (f .sc-of .ensures) (e .group-refusal-frame .ensures) (d .retransmit .ensures)
 
 pub repeat-refusal-spec : {M : Type 1} → statement M
 repeat-refusal-spec =

@@ -7,6 +7,9 @@ use Rattle.perform.proofs.reply_token.Tie as tie
 token-requires : tie.Need-token-requires
 token-requires c κs = search needs
 
+link-at-requires : tie.Need-link-at-requires
+link-at-requires c κs = search needs
+
 sub-store-token : tie.Need-sub-store-token
 sub-store-token c = search needs
 
@@ -26,13 +29,21 @@ same-length : tie.Need-same-length
 same-length c = search needs
 
 returns : tie.Need-returns
-returns c = let k = c .before .before .before .before .before .before .before .before .before .before .before in reply-token-law _ (k .args .s .now) (c .before .before .before .before .before .before .store-token .last .0) _ (messageOf (k .args .body .now) (k .args .v)) _ _ (c .before .before .before .before .before .before .before .before .token .ensures) (c .before .before .before .before .before .before .store-token .ensures) (k .pre .1 .0) (search needs) (c .before .before .repeat-commit .ensures)
+returns c =
+    let d = c .before .before in
+    let e = d .before .before .before .before in
+    let f = e .before .before in
+    let g = f .before in
+    let k = g .before .before .before in
+    reply-token-law _ _ (f .link-at .ensures) _ (k .args .s .now) (e .store-token .last .0) _ (messageOf (k .args .body .now) (k .args .v)) _ _
+    (g .token .ensures) (e .store-token .ensures) (k .pre .1 .0) (search needs) (d .repeat-commit .ensures)
 
 pub reply-token-spec : {M : Type 1} → statement M
 reply-token-spec =
     tie.close
     (tie.spec
     token-requires
+    link-at-requires
     sub-store-token
     part-store-token-start
     part-store-token-end

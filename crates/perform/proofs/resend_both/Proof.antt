@@ -32,10 +32,13 @@ same-length c = search needs
 
 returns : tie.Need-returns
 returns c =
-    let d = c .before .before .before .before in
+    let d = c .before .before in
     let e = d .before .before in
-    resend-law _ _ _ _ _ _ _ _ _ (e .before .before .before .before .group-of .ensures) (e .before .before .sync-of .ensures) (e .sc-of .ensures) (d .before .commit-frame .ensures)
-    (d .confirm-frame .ensures) (c .before .before .send-counted .ensures)
+    let f = e .before in
+    let g = f .before in
+    let h = g .before .before in
+    let i = h .before .before in
+    resend-law _ _ _ _ _ _ _ _ _ _ (i .group-of .ensures) (h .sync-of .ensures) (g .sc-of .ensures) (f .commit-frame .ensures) (e .confirm-frame .ensures) (d .send-counted .ensures)
 
 pub resend-both-spec : {M : Type 1} → statement M
 resend-both-spec =

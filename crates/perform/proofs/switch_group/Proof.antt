@@ -22,7 +22,11 @@ enum-known-k : tie.Need-enum-known-k
 enum-known-k c = search needs
 
 fresh-at-requires : tie.Need-fresh-at-requires
-fresh-at-requires c κs = switch-room _ _ _ _ _ _ (c .before .before .before .first-left .ensures) (c .before .k .given .1) (c .before .before .before .before .before .before .before .before .before .before .before .before .before .pre .1 .each)
+fresh-at-requires c κs =
+    let d = c .before in
+    let e = d .before .before in
+    let k = e .before .before .before .before .before .before .before .before .before .before in
+    let q = k .pre .1 in (q .wide, switch-room _ _ _ _ _ _ _ (e .first-left .ensures) (d .k .given .1) (q .each))
 
 switch-to-requires : tie.Need-switch-to-requires
 switch-to-requires c κs = search needs
@@ -37,13 +41,32 @@ same-length : tie.Need-same-length
 same-length c = search needs
 
 returns : tie.Need-returns
-returns c = switch-law _ _ _ _ _ _ _ _ _ _ _ _ _ _ (c .before .before .before .before .before .before .before .before .before .before .before .before .before .group-of .ensures) (c .before .before .before .before .before .before .before .before .before .before .before .rejected-of .ensures) (c .before .before .before .before .before .before .before .before .before .before .index-of .ensures .0) (c .before .before .before .before .before .before .before .before .before .marked-with .ensures) (c .before .before .before .before .before .before .before .before .first-left .ensures) (c .before .before .before .before .before .before .k .given .1) (c .before .before .before .before .fresh-at .ensures) (c .before .before .switch-to .ensures)
+returns c =
+    let d = c .before .before in
+    let e = d .before .before in
+    let f = e .before .before in
+    let g = f .before .before in
+    let h = g .before in
+    let i = h .before in
+    let j = i .before in
+    let l = j .before .before in
+    switch-law _ _ _ _ _ _ _ _ _ _ _ _ _ _ _ (l .group-of .ensures) (j .rejected-of .ensures) (i .index-of .ensures .0) (h .marked-with .ensures) (g .first-left .ensures) (f .k .given .1)
+    (e .fresh-at .ensures .1) (d .switch-to .ensures)
 
 same-length-2 : tie.Need-same-length-2
 same-length-2 c = search needs
 
 returns-2 : tie.Need-returns-2
-returns-2 c = switch-none _ _ _ _ _ _ _ _ _ _ _ (c .before .before .before .before .before .before .before .before .before .before .before .group-of .ensures) (c .before .before .before .before .before .before .before .before .before .rejected-of .ensures) (c .before .before .before .before .before .before .before .before .index-of .ensures .0) (c .before .before .before .before .before .before .before .marked-with .ensures) (c .before .before .before .before .before .before .first-left .ensures) (c .before .before .before .before .enum-told .given .1) (c .before .before .abandon .ensures)
+returns-2 c =
+    let d = c .before .before in
+    let e = d .before .before in
+    let f = e .before .before in
+    let g = f .before in
+    let h = g .before in
+    let i = h .before in
+    let j = i .before .before in
+    switch-none _ _ _ _ _ _ _ _ _ _ _ _ (j .group-of .ensures) (i .rejected-of .ensures) (h .index-of .ensures .0) (g .marked-with .ensures) (f .first-left .ensures) (e .enum-told .given .1)
+    (d .abandon .ensures)
 
 pub switch-group-spec : {M : Type 1} → statement M
 switch-group-spec =

@@ -11,7 +11,7 @@ get16-requires : tie.Need-get16-requires
 get16-requires c κs = search needs
 
 returns : tie.Need-returns
-returns c = c .get16 .ensures ∙ sym (group-law _)
+returns c = c .get16 .ensures ∙ sym (group-law _ _)
 
 pub group-of-spec : {M : Type 1} → statement M
 group-of-spec = tie.close (tie.spec add-get16 get16-requires returns)

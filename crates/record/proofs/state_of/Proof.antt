@@ -11,7 +11,7 @@ get8-requires : tie.Need-get8-requires
 get8-requires c κs = search needs
 
 returns : tie.Need-returns
-returns c = c .get8 .ensures ∙ sym (state-law _)
+returns c = c .get8 .ensures ∙ sym (state-law _ _)
 
 pub state-of-spec : {M : Type 1} → statement M
 state-of-spec = tie.close (tie.spec add-get8 get8-requires returns)

@@ -11,7 +11,7 @@ get32-requires : tie.Need-get32-requires
 get32-requires c κs = search needs
 
 returns : tie.Need-returns
-returns c = c .get32 .ensures ∙ sym (t0-law _)
+returns c = c .get32 .ensures ∙ sym (t0-law _ _)
 
 pub t0-of-spec : {M : Type 1} → statement M
 t0-of-spec = tie.close (tie.spec add-get32 get32-requires returns)

@@ -26,11 +26,14 @@ token-ok-requires c κs = search needs
 commit-length-requires : tie.Need-commit-length-requires
 commit-length-requires c κs = search needs
 
-zero-tail-requires : tie.Need-zero-tail-requires
-zero-tail-requires c κs = search needs
+run-peer-at-requires : tie.Need-run-peer-at-requires
+run-peer-at-requires c κs = search needs
 
-zero-part-requires : tie.Need-zero-part-requires
-zero-part-requires c κs = search needs
+zero-past-requires : tie.Need-zero-past-requires
+zero-past-requires c κs = search needs
+
+zero-past-requires-2 : tie.Need-zero-past-requires-2
+zero-past-requires-2 c κs = search needs
 
 returns : tie.Need-returns
 unfolding committedOk commitOk decodeRun runOf runWidths cut
@@ -47,6 +50,7 @@ committed-ok-spec =
     is-listed-requires
     token-ok-requires
     commit-length-requires
-    zero-tail-requires
-    zero-part-requires
+    run-peer-at-requires
+    zero-past-requires
+    zero-past-requires-2
     returns)

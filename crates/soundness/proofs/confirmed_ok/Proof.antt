@@ -26,11 +26,14 @@ token-ok-requires c κs = search needs
 commit-length-requires : tie.Need-commit-length-requires
 commit-length-requires c κs = search needs
 
-zero-tail-requires : tie.Need-zero-tail-requires
-zero-tail-requires c κs = search needs
+run-peer-at-requires : tie.Need-run-peer-at-requires
+run-peer-at-requires c κs = search needs
 
-zero-tail-requires-2 : tie.Need-zero-tail-requires-2
-zero-tail-requires-2 c κs = search needs
+zero-past-requires : tie.Need-zero-past-requires
+zero-past-requires c κs = search needs
+
+zero-past-requires-2 : tie.Need-zero-past-requires-2
+zero-past-requires-2 c κs = search needs
 
 cast-result : tie.Need-cast-result
 cast-result c = search needs
@@ -53,8 +56,9 @@ confirmed-ok-spec =
     is-listed-requires
     token-ok-requires
     commit-length-requires
-    zero-tail-requires
-    zero-tail-requires-2
+    run-peer-at-requires
+    zero-past-requires
+    zero-past-requires-2
     cast-result
     add-result
     returns)

@@ -26,11 +26,14 @@ is-listed-requires c κs = search needs
 commit-length-requires : tie.Need-commit-length-requires
 commit-length-requires c κs = search needs
 
-zero-tail-requires : tie.Need-zero-tail-requires
-zero-tail-requires c κs = search needs
+link-peer-at-requires : tie.Need-link-peer-at-requires
+link-peer-at-requires c κs = search needs
 
-zero-tail-requires-2 : tie.Need-zero-tail-requires-2
-zero-tail-requires-2 c κs = search needs
+zero-past-requires : tie.Need-zero-past-requires
+zero-past-requires c κs = search needs
+
+zero-past-requires-2 : tie.Need-zero-past-requires-2
+zero-past-requires-2 c κs = search needs
 
 returns : tie.Need-returns
 unfolding finishedOk commitOk decodeLink linkOf linkWidths cut
@@ -47,6 +50,7 @@ finished-ok-spec =
     get16-requires
     is-listed-requires
     commit-length-requires
-    zero-tail-requires
-    zero-tail-requires-2
+    link-peer-at-requires
+    zero-past-requires
+    zero-past-requires-2
     returns)

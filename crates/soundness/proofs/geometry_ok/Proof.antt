@@ -6,12 +6,9 @@ use Rattle.soundness.proofs.geometry_ok.Tie as tie
 cast-result : tie.Need-cast-result
 cast-result c = search needs
 
-cast-result-2 : tie.Need-cast-result-2
-cast-result-2 c = search needs
-
 returns : tie.Need-returns
 unfolding geometryOk
 returns c = cc
 
 pub geometry-ok-spec : {M : Type 1} → statement M
-geometry-ok-spec = tie.close (tie.spec cast-result cast-result-2 returns)
+geometry-ok-spec = tie.close (tie.spec cast-result returns)

@@ -1,7 +1,14 @@
+use mathlib.Core.Path.{sym, subst}
+use Prim.Native.Nat.{_≤_}
+use Rattle.record.specs.declared.Form.{Form}
 use Rattle.soundness.specs.Soundness.{headerOk}
+use Rattle.soundness.proofs.Laws.{form-groups}
 use borrow.Author.Needs.{needs}
 use Rattle.soundness.proofs.header_ok.Statement.{statement}
 use Rattle.soundness.proofs.header_ok.Tie as tie
+
+form-of-requires : tie.Need-form-of-requires
+form-of-requires c κs = search needs
 
 geometry-ok-requires : tie.Need-geometry-ok-requires
 geometry-ok-requires c κs = search needs
@@ -10,7 +17,7 @@ own-ok-requires : tie.Need-own-ok-requires
 own-ok-requires c κs = search needs
 
 settings-ok-requires : tie.Need-settings-ok-requires
-settings-ok-requires c κs = search needs
+settings-ok-requires c κs = subst (λ (f : Form). f .groups ≤ 2) (sym (c .before .before .form-of .ensures)) (form-groups _)
 
 returns : tie.Need-returns
 unfolding headerOk
@@ -18,4 +25,5 @@ returns c = cc
 
 pub header-ok-spec : {M : Type 1} → statement M
 header-ok-spec =
-    tie.close (tie.spec geometry-ok-requires own-ok-requires settings-ok-requires returns)
+    tie.close
+    (tie.spec form-of-requires geometry-ok-requires own-ok-requires settings-ok-requires returns)

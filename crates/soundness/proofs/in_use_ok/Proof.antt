@@ -3,14 +3,26 @@ use borrow.Author.Needs.{needs}
 use Rattle.soundness.proofs.in_use_ok.Statement.{statement}
 use Rattle.soundness.proofs.in_use_ok.Tie as tie
 
+link-at-requires : tie.Need-link-at-requires
+link-at-requires c κs = search needs
+
+record-size-requires : tie.Need-record-size-requires
+record-size-requires c κs = search needs
+
 get8-requires : tie.Need-get8-requires
 get8-requires c κs = search needs
 
 take6-requires : tie.Need-take6-requires
 take6-requires c κs = search needs
 
+add-get8 : tie.Need-add-get8
+add-get8 c = search needs
+
 get8-requires-2 : tie.Need-get8-requires-2
 get8-requires-2 c κs = search needs
+
+add-get8-2 : tie.Need-add-get8-2
+add-get8-2 c = search needs
 
 get8-requires-3 : tie.Need-get8-requires-3
 get8-requires-3 c κs = search needs
@@ -43,15 +55,19 @@ link-ok-requires : tie.Need-link-ok-requires
 link-ok-requires c κs = search needs
 
 returns : tie.Need-returns
-returns c = in-use-law _ _ _ _ _ _ _ _ _ _ _ (c .before .before .before .before .before .before .before .before .get8 .ensures) (c .before .before .before .before .before .before .before .take6 .ensures) (c .before .before .before .before .before .before .get82 .ensures) (c .before .before .before .before .before .get83 .ensures) (c .before .before .before .before .is-usable .ensures) (c .before .before .run-ok .ensures) (c .link-ok .ensures)
+returns c = in-use-law _ _ _ _ _ _ _ _ _ _ _ _ _ _ (c .before .before .before .before .before .before .before .before .before .before .before .before .before .pre .0) (c .before .before .before .before .before .before .before .before .before .before .link-at .ensures) (c .before .before .before .before .before .before .before .before .before .record-size .ensures) (c .before .before .before .before .before .before .before .before .get8 .ensures) (c .before .before .before .before .before .before .before .take6 .ensures) (c .before .before .before .before .before .before .get82 .ensures) (c .before .before .before .before .before .get83 .ensures) (c .before .before .before .before .is-usable .ensures) (c .before .before .run-ok .ensures) (c .link-ok .ensures)
 
 pub in-use-ok-spec : {M : Type 1} → statement M
 in-use-ok-spec =
     tie.close
     (tie.spec
+    link-at-requires
+    record-size-requires
     get8-requires
     take6-requires
+    add-get8
     get8-requires-2
+    add-get8-2
     get8-requires-3
     is-usable-requires
     sub-run-ok

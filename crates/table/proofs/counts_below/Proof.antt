@@ -1,3 +1,4 @@
+use Rattle.table.proofs.Laws.{reach}
 use native.Mathlib.Omega.{arith}
 use Prim.Native.Nat.{_≤_, _-_}
 use mathlib.Core.Path.{_≡_, refl, sym}
@@ -9,17 +10,17 @@ use Rattle.table.proofs.counts_below.Statement.{statement}
 use Rattle.table.proofs.counts_below.Tie as tie
 
 abbrev Inv-loop : tie.InvT-loop
-Inv-loop t n used₀ opened₀ i₀ used opened i =
+Inv-loop t w n used₀ opened₀ i₀ used opened i =
     (i ≤ n) × ((used ≡ countBelow (λ k. inUse (slot (decodeTable t) k)) i) × (opened ≡ countBelow (λ k. isOpen (slot (decodeTable t) k)) i))
 
 abbrev μ-loop : tie.MeasureT-loop
-μ-loop t n used₀ opened₀ i₀ used opened i = n - i
+μ-loop t w n used₀ opened₀ i₀ used opened i = n - i
 
 loop-holds : tie.Need-loop-holds Inv-loop μ-loop
 loop-holds c = (search needs, (sym (count-none _), sym (count-none _)))
 
 is-used-requires : tie.Need-is-used-requires Inv-loop μ-loop
-is-used-requires c κs = search needs
+is-used-requires c κs = let a = c .before .before .before in reach (a .args .t .now) (a .args .w) (a .args .n) (c .before .loop .i) (a .pre .0) (c .loop-test .taken)
 
 one-if-requires : tie.Need-one-if-requires Inv-loop μ-loop
 one-if-requires c κs = search needs
@@ -31,7 +32,7 @@ add-used c =
     omega (arith, count-fits (λ k. inUse (slot (decodeTable (s .args .t .now)) k)) (l .i) (l .used) (c .one-if .result) (c .before .is-used .result) (l .inv .1 .0) (c .one-if .ensures))
 
 is-open-requires : tie.Need-is-open-requires Inv-loop μ-loop
-is-open-requires c κs = search needs
+is-open-requires c κs = let a = c .before .before .before .before .before in reach (a .args .t .now) (a .args .w) (a .args .n) (c .before .before .before .loop .i) (a .pre .0) (c .before .before .loop-test .taken)
 
 one-if-requires-2 : tie.Need-one-if-requires-2 Inv-loop μ-loop
 one-if-requires-2 c κs = search needs
@@ -58,14 +59,14 @@ loop-again c =
       ),
     )
 
-cast-t8 : tie.Need-cast-t8 Inv-loop μ-loop
-cast-t8 c =
+cast-t9 : tie.Need-cast-t9 Inv-loop μ-loop
+cast-t9 c =
     let l = c .before .loop in
     let s = c .before .before .before in
     omega (arith, count-le (λ k. inUse (slot (decodeTable (s .args .t .now)) k)) (l .i), l .inv .0, l .inv .1 .0, s .pre .1)
 
-cast-t9 : tie.Need-cast-t9 Inv-loop μ-loop
-cast-t9 c =
+cast-t10 : tie.Need-cast-t10 Inv-loop μ-loop
+cast-t10 c =
     let l = c .before .loop in
     let s = c .before .before .before in
     omega (arith, count-le (λ k. isOpen (slot (decodeTable (s .args .t .now)) k)) (l .i), l .inv .0, l .inv .1 .1, s .pre .1)
@@ -91,6 +92,6 @@ counts-below-spec =
     add-i
     loop-less
     loop-again
-    cast-t8
     cast-t9
+    cast-t10
     returns)

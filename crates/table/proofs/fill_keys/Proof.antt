@@ -1,3 +1,4 @@
+use Rattle.table.proofs.Laws.{reach}
 use borrow.Author.Needs.{needs}
 use Rattle.table.proofs.Keys.{keys-more}
 use lib.ListN.{length, getD}
@@ -9,16 +10,16 @@ use Rattle.table.proofs.fill_keys.Statement.{statement}
 use Rattle.table.proofs.fill_keys.Tie as tie
 
 abbrev Inv-loop : tie.InvT-loop
-Inv-loop t n keys₀ i₀ keys i = (i ≤ n) × ((length keys ≡ length keys₀) × ((k : ℕ) → k < i → getD keys k 0 ≡ key (slot (decodeTable t) k)))
+Inv-loop t w n keys₀ i₀ keys i = (i ≤ n) × ((length keys ≡ length keys₀) × ((k : ℕ) → k < i → getD keys k 0 ≡ key (slot (decodeTable t) k)))
 
 abbrev μ-loop : tie.MeasureT-loop
-μ-loop t n keys₀ i₀ keys i = n - i
+μ-loop t w n keys₀ i₀ keys i = n - i
 
 loop-holds : tie.Need-loop-holds Inv-loop μ-loop
 loop-holds c = (search needs, (search needs, λ k h. absurd (omega arith)))
 
 key-at-requires : tie.Need-key-at-requires Inv-loop μ-loop
-key-at-requires c κs = search needs
+key-at-requires c κs = let a = c .before .before .before .before in reach (a .args .t .now) (a .args .w) (a .args .n) (c .before .loop .i) (a .pre .0) (c .loop-test .taken)
 
 mul-keys : tie.Need-mul-keys Inv-loop μ-loop
 mul-keys c = search needs

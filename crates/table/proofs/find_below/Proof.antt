@@ -1,3 +1,4 @@
+use Rattle.table.proofs.Laws.{reach}
 use borrow.Author.Needs.{needs}
 use Rattle.octets.proofs.Scan.{first-none, first-more, first-hit, first-through}
 use Rattle.octets.specs.Octets.{num}
@@ -13,16 +14,16 @@ use Rattle.table.proofs.find_below.Statement.{statement}
 use Rattle.table.proofs.find_below.Tie as tie
 
 abbrev Inv-loop : tie.InvT-loop
-Inv-loop t n x i₀ i = (i ≤ n) × (firstBelow (λ k. inUse (slot (decodeTable t) k) && eqb (num (slot (decodeTable t) k .address)) x) i ≡ Nothing)
+Inv-loop t w n x i₀ i = (i ≤ n) × (firstBelow (λ k. inUse (slot (decodeTable t) k) && eqb (num (slot (decodeTable t) k .address)) x) i ≡ Nothing)
 
 abbrev μ-loop : tie.MeasureT-loop
-μ-loop t n x i₀ i = n - i
+μ-loop t w n x i₀ i = n - i
 
 loop-holds : tie.Need-loop-holds Inv-loop μ-loop
 loop-holds c = (search needs, first-none _)
 
 has-requires : tie.Need-has-requires Inv-loop μ-loop
-has-requires c κs = search needs
+has-requires c κs = let a = c .before .before .before in reach (a .args .t .now) (a .args .w) (a .args .n) (c .before .loop .i) (a .pre) (c .loop-test .taken)
 
 returns : tie.Need-returns Inv-loop μ-loop
 returns c = first-hit _ _ _ (c .before .before .loop-test .taken) (c .before .before .before .loop .inv .1) (sym (c .before .has .ensures) ∙ c .if1 .taken)

@@ -1,3 +1,4 @@
+use Rattle.table.proofs.Laws.{reach}
 use borrow.Author.Needs.{needs}
 use borrow.Author.Tests.{eq-eqb, ne-eqb}
 use Rattle.octets.proofs.Scan.{last-found, last-step, last-through}
@@ -11,10 +12,10 @@ use Rattle.table.proofs.free_below.Statement.{statement}
 use Rattle.table.proofs.free_below.Tie as tie
 
 abbrev Inv-loop : tie.InvT-loop
-Inv-loop t n i₀ i = (i ≤ n) × (lastBelow (λ k. eqb (slot (decodeTable t) k .used) 0) n ≡ lastBelow (λ k. eqb (slot (decodeTable t) k .used) 0) i)
+Inv-loop t w n i₀ i = (i ≤ n) × (lastBelow (λ k. eqb (slot (decodeTable t) k .used) 0) n ≡ lastBelow (λ k. eqb (slot (decodeTable t) k .used) 0) i)
 
 abbrev μ-loop : tie.MeasureT-loop
-μ-loop t n i₀ i = i
+μ-loop t w n i₀ i = i
 
 loop-holds : tie.Need-loop-holds Inv-loop μ-loop
 loop-holds c = (search needs, refl)
@@ -23,7 +24,7 @@ sub-k : tie.Need-sub-k Inv-loop μ-loop
 sub-k c = search needs
 
 used-at-requires : tie.Need-used-at-requires Inv-loop μ-loop
-used-at-requires c κs = search needs
+used-at-requires c κs = let a = c .before .before .before in reach (a .args .t .now) (a .args .w) (a .args .n) _ (a .pre) (omega (arith, c .before .loop .inv .0, c .loop-test .taken))
 
 returns : tie.Need-returns Inv-loop μ-loop
 returns c = let l = c .before .before .before .loop in last-found _ _ (l .i) (l .inv .1) (c .before .before .loop-test .taken) (eq-eqb _ _ (sym (c .before .used-at .ensures) ∙ c .if1 .taken))

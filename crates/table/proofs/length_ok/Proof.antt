@@ -1,4 +1,5 @@
-use Rattle.table.proofs.Initial.{length-short, length-law}
+use native.Mathlib.Omega.{arith}
+use Rattle.table.proofs.Initial.{made-size, length-short, length-by}
 use borrow.Author.Needs.{needs}
 use Rattle.table.proofs.length_ok.Statement.{statement}
 use Rattle.table.proofs.length_ok.Tie as tie
@@ -6,11 +7,32 @@ use Rattle.table.proofs.length_ok.Tie as tie
 returns : tie.Need-returns
 returns c = length-short _ (c .if1 .taken)
 
+narrow-requires : tie.Need-narrow-requires
+narrow-requires c κs = search needs
+
 slots-for-requires : tie.Need-slots-for-requires
 slots-for-requires c κs = search needs
 
+cast-result : tie.Need-cast-result
+cast-result c = search needs
+
+cast-result-2 : tie.Need-cast-result-2
+cast-result-2 c = search needs
+
+rem-result : tie.Need-rem-result
+rem-result c = omega (arith, made-size (c .before .before .before .narrow .ensures))
+
 returns-2 : tie.Need-returns-2
-returns-2 c = length-law _ _ (c .before .if1 .left) (c .slots-for .ensures)
+returns-2 c = length-by _ _ _ (c .before .before .before .narrow .ensures) (c .before .before .before .before .if1 .left) (c .before .before .slots-for .ensures)
 
 pub length-ok-spec : {M : Type 1} → statement M
-length-ok-spec = tie.close (tie.spec returns slots-for-requires returns-2)
+length-ok-spec =
+    tie.close
+    (tie.spec
+    returns
+    narrow-requires
+    slots-for-requires
+    cast-result
+    cast-result-2
+    rem-result
+    returns-2)

@@ -1,15 +1,15 @@
-use Rattle.soundness.specs.Soundness.{peerOk}
 use mathlib.Core.Path.{ap, _∙_}
+use Rattle.soundness.specs.Soundness.{peerOk}
 use Rattle.table.proofs.Octets.{window-law}
 use borrow.Author.Needs.{needs}
 use Rattle.table.proofs.slot_ok.Statement.{statement}
 use Rattle.table.proofs.slot_ok.Tie as tie
 
-mul-a : tie.Need-mul-a
-mul-a c = search needs
+record-at-requires : tie.Need-record-at-requires
+record-at-requires c κs = search needs
 
-add-a : tie.Need-add-a
-add-a c = search needs
+record-size-requires : tie.Need-record-size-requires
+record-size-requires c κs = search needs
 
 add-e : tie.Need-add-e
 add-e c = search needs
@@ -27,14 +27,14 @@ peer-ok-requires : tie.Need-peer-ok-requires
 peer-ok-requires c κs = search needs
 
 returns : tie.Need-returns
-returns c = let k = c .before .before .before .before in c .peer-ok .ensures ∙ ap (peerOk (k .args .own) (k .args .groups .now) (k .args .high)) (window-law (k .args .t .now) (k .args .k) (k .pre .0))
+returns c = let k = c .before .before .before .before .before .before in c .peer-ok .ensures ∙ ap (peerOk (k .args .own) (k .args .groups .now) (k .args .high)) (window-law (k .args .t .now) (k .args .w) (k .args .k) _ (k .pre .0) (c .before .before .before .record-at .ensures) _ (c .before .before .record-size .ensures))
 
 pub slot-ok-spec : {M : Type 1} → statement M
 slot-ok-spec =
     tie.close
     (tie.spec
-    mul-a
-    add-a
+    record-at-requires
+    record-size-requires
     add-e
     sub-peer-ok
     part-peer-ok-start

@@ -1,14 +1,23 @@
-use Rattle.table.specs.Initial.{slotsFor}
+use native.Mathlib.Omega.{arith}
+use Rattle.table.proofs.Initial.{made-size, slots-by}
 use borrow.Author.Needs.{needs}
 use Rattle.table.proofs.slots_for.Statement.{statement}
 use Rattle.table.proofs.slots_for.Tie as tie
 
+narrow-requires : tie.Need-narrow-requires
+narrow-requires c κs = search needs
+
 sub-result : tie.Need-sub-result
 sub-result c = search needs
 
+cast-result : tie.Need-cast-result
+cast-result c = search needs
+
+div-result : tie.Need-div-result
+div-result c = omega (arith, made-size (c .before .narrow .ensures))
+
 returns : tie.Need-returns
-unfolding slotsFor
-returns c = search needs
+returns c = slots-by _ _ (c .before .narrow .ensures)
 
 pub slots-for-spec : {M : Type 1} → statement M
-slots-for-spec = tie.close (tie.spec sub-result returns)
+slots-for-spec = tie.close (tie.spec narrow-requires sub-result cast-result div-result returns)

@@ -1,3 +1,4 @@
+use Rattle.table.proofs.Laws.{reach}
 use borrow.Author.Needs.{needs}
 use Rattle.soundness.specs.Soundness.{peerOk}
 use Rattle.octets.proofs.Scan.{all-none, all-more, all-broke, all-through}
@@ -10,16 +11,16 @@ use Rattle.table.proofs.slots_ok.Statement.{statement}
 use Rattle.table.proofs.slots_ok.Tie as tie
 
 abbrev Inv-loop : tie.InvT-loop
-Inv-loop t n own groups high i₀ i = (i ≤ n) × (allBelow (λ k. peerOk own groups high (slot (decodeTable t) k)) i ≡ true)
+Inv-loop t w n own groups high i₀ i = (i ≤ n) × (allBelow (λ k. peerOk own groups high (slot (decodeTable t) k)) i ≡ true)
 
 abbrev μ-loop : tie.MeasureT-loop
-μ-loop t n own groups high i₀ i = n - i
+μ-loop t w n own groups high i₀ i = n - i
 
 loop-holds : tie.Need-loop-holds Inv-loop μ-loop
 loop-holds c = (search needs, all-none _)
 
 slot-ok-requires : tie.Need-slot-ok-requires Inv-loop μ-loop
-slot-ok-requires c κs = search needs
+slot-ok-requires c κs = let a = c .before .before .before .before in (reach (a .args .t .now) (a .args .w) (a .args .n) (c .before .loop .i) (a .pre .0) (c .loop-test .taken), a .pre .1)
 
 add-i : tie.Need-add-i Inv-loop μ-loop
 add-i c = search needs

@@ -3,11 +3,11 @@ use borrow.Author.Needs.{needs}
 use Rattle.table.proofs.state_at.Statement.{statement}
 use Rattle.table.proofs.state_at.Tie as tie
 
+record-at-requires : tie.Need-record-at-requires
+record-at-requires c κs = search needs
+
 add-get8 : tie.Need-add-get8
 add-get8 c = search needs
-
-mul-get8 : tie.Need-mul-get8
-mul-get8 c = search needs
 
 add-get8-2 : tie.Need-add-get8-2
 add-get8-2 c = search needs
@@ -16,7 +16,7 @@ get8-requires : tie.Need-get8-requires
 get8-requires c κs = search needs
 
 returns : tie.Need-returns
-returns c = let k = c .before .before in state-at-law (k .args .t .now) (k .args .k) _ (k .pre) (c .get8 .ensures)
+returns c = let k = c .before .before .before in state-at-law (k .args .t .now) (k .args .w) (k .args .k) _ (k .pre) (c .before .record-at .ensures) _ (c .get8 .ensures)
 
 pub state-at-spec : {M : Type 1} → statement M
-state-at-spec = tie.close (tie.spec add-get8 mul-get8 add-get8-2 get8-requires returns)
+state-at-spec = tie.close (tie.spec record-at-requires add-get8 add-get8-2 get8-requires returns)

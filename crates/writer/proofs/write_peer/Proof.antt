@@ -1,4 +1,5 @@
 -- `writer::write_peer` meets its contract: each branch by its law of Laws.
+use Rattle.record.specs.Layout.{decodePeer}
 use Rattle.writer.proofs.Laws.{body-commit, body-confirm, body-neither}
 use borrow.Author.Needs.{needs}
 use Rattle.writer.proofs.write_peer.Statement.{statement}
@@ -11,7 +12,9 @@ same-length : tie.Need-same-length
 same-length c = search needs
 
 returns : tie.Need-returns
-returns c = body-commit _ (c .before .before .before .before .before .before .before .before .args .p) _ _ _ _ _ (c .before .before .before .before .if1 .taken) (c .before .before .write-run-commit .ensures)
+returns c =
+    let k = c .before .before .before .before .before .before .before .before .before in
+    body-commit _ (decodePeer (k .args .w) (k .args .s .now)) _ _ _ _ _ (c .before .before .before .before .if1 .taken) (c .before .before .write-run-commit .ensures)
 
 write-record-confirm-requires : tie.Need-write-record-confirm-requires
 write-record-confirm-requires c κs = search needs
@@ -20,10 +23,14 @@ same-length-2 : tie.Need-same-length-2
 same-length-2 c = search needs
 
 returns-2 : tie.Need-returns-2
-returns-2 c = body-confirm _ (c .before .before .before .before .before .before .before .before .before .args .p) _ _ _ _ _ (c .before .before .before .before .before .if1 .left) (c .before .before .before .before .if2 .taken) (c .before .before .write-record-confirm .ensures)
+returns-2 c =
+    let k = c .before .before .before .before .before .before .before .before .before .before in
+    body-confirm _ (decodePeer (k .args .w) (k .args .s .now)) _ _ _ _ _ (c .before .before .before .before .before .if1 .left) (c .before .before .before .before .if2 .taken) (c .before .before .write-record-confirm .ensures)
 
 returns-3 : tie.Need-returns-3
-returns-3 c = body-neither _ (c .before .before .before .before .before .args .p) _ _ _ (c .before .if1 .left) (c .if2 .left)
+returns-3 c =
+    let k = c .before .before .before .before .before .before in
+    body-neither _ (decodePeer (k .args .w) (k .args .s .now)) _ _ _ (c .before .if1 .left) (c .if2 .left)
 
 pub write-peer-spec : {M : Type 1} → statement M
 write-peer-spec =

@@ -1,46 +1,55 @@
 -- `writer::write_run_commit` meets its contract: each branch by its law of Laws.
-use Rattle.writer.proofs.Laws.{commit-none, commit-run}
-use mathlib.Core.Path.{_≡_, sym}
-use Prim.Native.Nat.{ℕ, _≤_}
-use native.Mathlib.Omega.{arith}
+use mathlib.Core.Path.{sym}
+use Prim.Native.Nat.{_≤_}
 use lib.ListN.{length}
 use lib.Seq.{length-take-le}
-use Rattle.groups.specs.Groups.{width}
-use Rattle.record.proofs.Laws.{ShapePeer}
+use Rattle.record.specs.Layout.{decodePeer}
+use Rattle.writer.proofs.Laws.{token-held, own-held, commit-none, commit-run}
 use borrow.Author.Needs.{needs}
 use Rattle.writer.proofs.write_run_commit.Statement.{statement}
 use Rattle.writer.proofs.write_run_commit.Tie as tie
 
--- the lengths of the record's arrays
-fit : (c : tie.Start) → ShapePeer width (c .args .p)
-fit c = search needs
+-- as many octets of the own commit as the group has
+own-in : (c : tie.After-commit-length) → c .commit-length .result ≤ length (c .before .own-of .result .now)
+own-in c =
+    let k = c .before .before .before .before .before .before .before .before .before .before in
+    own-held (k .args .s .now) (k .args .w) (k .pre) _ (c .before .before .before .before .before .before .state-of .ensures) (c .before .before .before .before .before .if1 .left) _ _
+    (c .before .own-of .result .now) (c .before .before .before .before .group-of .ensures) (c .commit-length .ensures .0) (c .before .own-of .ensures .0)
 
-token-fits : (c : tie.Start) → c .args .p .run .toklen ≤ 256 → c .args .p .run .toklen ≤ length (c .args .p .run .token)
-token-fits c h = let e : length (c .args .p .run .token) ≡ 256 = fit c .run .token in omega arith
-
-own-fits : (c : tie.Start) {n : ℕ} → n ≤ width → n ≤ length (c .args .p .run .own)
-own-fits c h = let e : length (c .args .p .run .own) ≡ width = fit c .run .own in omega arith
+state-of-requires : tie.Need-state-of-requires
+state-of-requires c κs = search needs
 
 returns : tie.Need-returns
-returns c = commit-none _ (c .before .before .before .before .before .args .p) _ (c .if1 .taken)
+returns c =
+    let k = c .before .before .before .before .before in
+    commit-none _ (decodePeer (k .args .w) (k .args .s .now)) _ _ (c .before .state-of .ensures) (c .if1 .taken)
+
+group-of-requires : tie.Need-group-of-requires
+group-of-requires c κs = search needs
+
+token-of-requires : tie.Need-token-of-requires
+token-of-requires c κs = search needs
+
+toklen-of-requires : tie.Need-toklen-of-requires
+toklen-of-requires c κs = search needs
 
 cast-m : tie.Need-cast-m
 cast-m c = search needs
 
+own-of-requires : tie.Need-own-of-requires
+own-of-requires c κs = search needs
+
 commit-length-requires : tie.Need-commit-length-requires
 commit-length-requires c κs = search needs
 
-array-share-prefix-token : tie.Need-array-share-prefix-token
-array-share-prefix-token c = token-fits (c .before .before .before .before .before .before .before .before .before) (c .before .before .before .before .before .before .before .before .before .pre .token (c .before .before .before .before .if1 .left))
-
 slice-aggregate-write-commit : tie.Need-slice-aggregate-write-commit
-slice-aggregate-write-commit c = sym (length-take-le _ _ (token-fits (c .before .before .before .before .before .before .before .before .before .before) (c .before .before .before .before .before .before .before .before .before .before .pre .token (c .before .before .before .before .before .if1 .left))))
-
-array-share-prefix-own : tie.Need-array-share-prefix-own
-array-share-prefix-own c = own-fits (c .before .before .before .before .before .before .before .before .before .before) (c .before .commit-length .ensures .1)
+slice-aggregate-write-commit c =
+    let k = c .before .before .before .before .before .before .before .before .before .before .before in
+    sym (length-take-le _ _ (token-held (k .args .s .now) (k .args .w) (k .pre) _ (c .before .before .before .before .before .before .before .state-of .ensures) (c .before .before .before .before .before .before .if1 .left) _ _
+    (c .before .before .before .toklen-of .ensures) (c .before .before .before .before .token-of .ensures)))
 
 slice-aggregate-write-commit-2 : tie.Need-slice-aggregate-write-commit-2
-slice-aggregate-write-commit-2 c = sym (length-take-le _ _ (own-fits (c .before .before .before .before .before .before .before .before .before .before .before) (c .before .before .commit-length .ensures .1)))
+slice-aggregate-write-commit-2 c = sym (length-take-le _ _ (own-in (c .before .before)))
 
 write-commit-requires : tie.Need-write-commit-requires
 write-commit-requires c κs = search needs
@@ -49,18 +58,26 @@ same-length : tie.Need-same-length
 same-length c = search needs
 
 returns-2 : tie.Need-returns-2
-returns-2 c = commit-run _ (c .before .before .before .before .before .before .before .before .before .before .before .before .before .before .before .args .p) _ _ _ _ (c .before .before .before .before .before .before .before .before .before .before .if1 .left) (c .before .before .before .before .before .before .commit-length .ensures .0) (c .before .before .write-commit .ensures)
+returns-2 c =
+    let k = c .before .before .before .before .before .before .before .before .before .before .before .before .before .before .before .before in
+    let l = c .before .before .before .before .before .before in
+    commit-run _ (decodePeer (k .args .w) (k .args .s .now)) _ _ (l .before .before .before .before .before .before .state-of .ensures) _ _ _ _ _ _ _ (l .before .before .before .before .before .if1 .left)
+    (l .before .before .before .before .group-of .ensures) (l .before .before .toklen-of .ensures) (l .before .before .before .token-of .ensures) (l .commit-length .ensures .0) (own-in l) (l .before .own-of .ensures .1)
+    (c .before .before .write-commit .ensures)
 
 pub write-run-commit-spec : {M : Type 1} → statement M
 write-run-commit-spec =
     tie.close
     (tie.spec
+    state-of-requires
     returns
+    group-of-requires
+    token-of-requires
+    toklen-of-requires
     cast-m
+    own-of-requires
     commit-length-requires
-    array-share-prefix-token
     slice-aggregate-write-commit
-    array-share-prefix-own
     slice-aggregate-write-commit-2
     write-commit-requires
     same-length
