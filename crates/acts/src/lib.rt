@@ -3,7 +3,7 @@
 ghost use mathlib.Core.Path.{_≡_};
 ghost use Prim.Native.Nat.{_+_, _≤_};
 ghost use lib.ListN.{length};
-ghost use Rattle.groups.specs.Groups.{width, stored};
+ghost use Rattle.groups.specs.Groups.{width, stored, Storable};
 ghost use Rattle.record.specs.Layout.{decodeRun, decodeLink, decodePeer, runSize, linkSize, recordSize};
 ghost use Rattle.rules.specs.Parts.{withSync, withSc, withOwn, finishedAs};
 ghost use Rattle.rules.specs.Book.{commitFrame, tokenRequestFrame, groupRefusalFrame, confirmFrame, deadline, setT0, sending, abandoning, retransmitting, supersede, formedRun, forming, accepting, endingLink};
@@ -100,7 +100,7 @@ fn count_run(r: &mut [u8], w: usize, sync: u8, sc: u16, clock: Clock)
 
 // The run of "Form": its own commit and its token stay.
 fn form_run(r: &mut [u8], w: usize, group: u16, theirs: &[u8], clock: Clock)
-    requires { ⌜ Paced clock × ((length (now r) ≡ runSize w) × ((w ≤ width) × (length (now theirs) ≡ w))) ⌝ }
+    requires { ⌜ Paced clock × ((length (now r) ≡ runSize w) × ((w ≤ width) × ((length (now theirs) ≤ width) × Storable w (stored (now theirs))))) ⌝ }
     ensures { λ _. ⌜ decodeRun w (now (r .exit)) ≡ formedRun clock (decodeRun w (now (r .entry))) group (decodeRun w (now (r .entry)) .own) (stored (now (theirs .entry))) ⌝ }
 {
     let at = deadlines::t0_at(clock, 0);
@@ -111,7 +111,7 @@ fn form_run(r: &mut [u8], w: usize, group: u16, theirs: &[u8], clock: Clock)
     octets::put16(r, SC, 1);
     octets::put16(r, GROUP, group);
     octets::put32(r, T0, at);
-    octets::copy_in(r, peer, theirs);
+    groups::put_stored(r, peer, w, theirs);
 }
 
 // ---- in the link's octets
@@ -230,7 +230,7 @@ pub fn form_pair(
     afresh: u16,
     clock: Clock,
 ) -> Said
-    requires { ⌜ Paced clock × ((length (now s) ≡ recordSize w) × ((w ≤ width) × (length (now theirs) ≡ w))) ⌝ }
+    requires { ⌜ Paced clock × ((length (now s) ≡ recordSize w) × ((w ≤ width) × ((length (now theirs) ≤ width) × Storable w (stored (now theirs))))) ⌝ }
     ensures { λ x. ⌜ Does w x (now (s .exit)) (forming clock (decodePeer w (now (s .entry))) address group (decodePeer w (now (s .entry)) .run .own) (stored (now (theirs .entry))) frames afresh) ⌝ }
 {
     let at = record::link_at(w);

@@ -22,10 +22,10 @@ use Rattle.frame.specs.declared.Body.{Body}
 use Rattle.frame.specs.declared.Body.the-variants as body
 use Rattle.frame.proofs.Shapes.{commit-shape, other-group-shape, token-request-shape, group-refusal-shape, confirm-shape, field-fits}
 use Rattle.record.specs.declared.Peer.{Peer}
-use Rattle.record.proofs.Laws.{form-width}
+use Rattle.record.proofs.Laws.{form-width, form-groups}
 use Rattle.record.specs.Layout.{formIn, widthIn, groupsOf, noPeer, decodeHeader, headerOf, factoryLimit, periodOf, limitOf}
 use Rattle.soundness.specs.Soundness.{usable, highSync, commitOk}
-use Rattle.soundness.proofs.Laws.{Groups, SettingsForm, header-form, settings-form, header-groups, header-width, form-groups, groups-length}
+use Rattle.soundness.proofs.Laws.{Groups, SettingsForm, header-form, settings-form, header-groups, header-width, groups-length}
 use Rattle.table.specs.Table.{Table, decodeTable, slot, slots, belongs, finds, lookBy, look, sound, entry, foundEntry}
 use Rattle.table.specs.declared.Entry.{Entry}
 use Rattle.table.specs.declared.Entry.the-variants as entry-is

@@ -3,14 +3,12 @@ use mathlib.Core.Path.{_≡_, refl, sym, ap, _∙_, subst}
 use mathlib.Core.Bool.{Bool, true, false, not, _&&_}
 use mathlib.Core.List.{List}
 use Prim.Native.Nat.{ℕ, _≤_, _<_}
-use native.Mathlib.Omega.{arith}
 use lib.Dec.{eqb, ltb}
 use lib.ListN.{length, take}
-use lib.Seq.{length-take-le, take-all}
 use borrow.Author.Tests.{eq-eqb, ne-eqb, lt-ltb, le-ltb, not-true, not-false}
 use Rattle.octets.specs.Octets.{part, same}
-use Rattle.groups.specs.Groups.{scalarLength, stored, Storable}
-use Rattle.groups.proofs.Laws.{part-stored, same-stored}
+use Rattle.groups.specs.Groups.{width, scalarLength, stored, Storable}
+use Rattle.groups.proofs.Laws.{cut-stored, cut-long, same-stored}
 use Rattle.record.specs.declared.Link.{Link}
 use Rattle.rules.specs.Book.{holds, linkedWith}
 use Rattle.rules.specs.Message.{Message}
@@ -38,20 +36,21 @@ module _ (l : Link) (m : Message) (finished group : ℕ) (x : Bool) where
   unfolding linkedWith
   this-link heard e z g d c q = rw (ne-eqb (l .finished) 0 (λ q. z (e ∙ q)), eq-eqb (l .group) (m .group) (sym g ∙ d), ← c) q
 
--- the scalar, of a peer commit where it lies
+-- the scalar, of two commits where they lie
 pub same-scalar-law :
-    (heard peer commit : List ℕ) (W group n : ℕ) (x : Bool) → n ≡ scalarLength group → n ≤ W → length peer ≡ W → stored peer ≡ commit →
-    x ≡ same (part heard 0 n) (part peer 0 n) → x ≡ same (part heard 0 (scalarLength group)) (part commit 0 (scalarLength group))
-same-scalar-law heard peer commit W group n x e h l c q = rw (← e, ← c, part-stored peer n (omega arith)) q
+    (heard peer commit : List ℕ) (group n : ℕ) (x : Bool) → n ≡ scalarLength group → stored peer ≡ commit →
+    x ≡ same (part (stored heard) 0 n) (part (stored peer) 0 n) → x ≡ same (part (stored heard) 0 (scalarLength group)) (part commit 0 (scalarLength group))
+same-scalar-law heard peer commit group n x e c q = rw (← e, ← c) q
 
--- a commit against one where it lies: what its width cuts off is zero
+-- a commit against our own, both where they lie: what its width cuts off is zero
 pub same-commit-law :
-    (heard commit lies own : List ℕ) (W : ℕ) (x : Bool) → W ≤ length heard → heard ≡ commit → Storable W commit → length lies ≡ W → stored lies ≡ own →
-    x ≡ same (take W heard) lies → x ≡ same commit own
-same-commit-law heard commit lies own W x h e s l o q =
-    let n : length (take W heard) ≡ length lies = length-take-le W heard h ∙ sym l in
-    let f : stored (take W heard) ≡ commit = ap (λ (c : List ℕ). stored (take W c)) e ∙ s .same in
-    q ∙ sym (same-stored (take W heard) lies n) ∙ ap (λ (c : List ℕ). same c (stored lies)) f ∙ ap (same commit) o
+    (heard commit lies own : List ℕ) (W : ℕ) (x : Bool) → W ≤ width → length heard ≤ width → stored heard ≡ commit → Storable W commit → length lies ≡ W → stored lies ≡ own →
+    x ≡ same (part (stored heard) 0 W) (part (stored lies) 0 W) → x ≡ same commit own
+unfolding part
+same-commit-law heard commit lies own W x w h e s l o q =
+    let n : length (take W (stored heard)) ≡ length lies = cut-long W heard w h ∙ sym l in
+    let f : stored (take W (stored heard)) ≡ commit = ap (λ (c : List ℕ). stored (take W c)) e ∙ s .same in
+    q ∙ ap (same (take W (stored heard))) (cut-stored lies W l) ∙ sym (same-stored (take W (stored heard)) lies n) ∙ ap (λ (c : List ℕ). same c (stored lies)) f ∙ ap (same commit) o
 
 -- "wrong token": not asked unless Open is at or above the threshold
 pub unasked : (crowded wrong : Bool) → not crowded ≡ true → false ≡ (crowded && wrong)
@@ -64,11 +63,6 @@ pub wrong-law :
     (crowded like : Bool) (n : ℕ) (token heard expected : List ℕ) → not crowded ≡ false → heard ≡ token → like ≡ same (take n heard) expected →
     not like ≡ (crowded && not (same (take n token) expected))
 wrong-law crowded like n token heard expected e h q = ap not (q ∙ ap (λ (x : List ℕ). same (take n x) expected) h) ∙ asked crowded (not (same (take n token) expected)) e
-
--- two slices as long as the parts compared
-pub same-whole : (a b : List ℕ) (n : ℕ) (r : Bool) → length a ≡ n → length b ≡ n → r ≡ same (part a 0 n) (part b 0 n) → r ≡ same a b
-unfolding part
-same-whole a b n r p q e = e ∙ (λ i. same (take-all n a (omega (arith, p)) i) (take-all n b (omega (arith, q)) i))
 
 -- a number that a call read, against a constant
 pub read-is : (x r k : ℕ) → r ≡ x → r ≡ k → eqb x k ≡ true

@@ -6,31 +6,29 @@ ghost use lib.Dec.{eqb};
 ghost use lib.ListN.{length, take};
 ghost use Rattle.octets.specs.Octets.{part, same};
 ghost use Rattle.octets.specs.Scan.{if_then_else_};
-ghost use Rattle.groups.specs.Groups.{width, scalarLength, Storable, freshOf, freshFor};
+ghost use Rattle.groups.specs.Groups.{width, scalarLength, stored, Storable, freshOf, freshFor};
 ghost use Rattle.record.specs.Layout.{decodePeer, recordSize};
 ghost use Rattle.rules.specs.declared.Act.the-variants.{Drop};
 ghost use Rattle.rules.specs.Book.{linkedWith, commitIdle, commitCommitted, commitConfirmed, confirmCommitted, confirmConfirmed, confirmLinked, commitAct, confirmAct, frameAct};
 ghost use Rattle.message.specs.View.{messageOf};
 ghost use Rattle.rules.specs.Given.{terms, call, Stocked, Ready};
-use groups::COMMIT;
 use message::View;
-use record::NARROW_WIDTH;
 use rules::Act;
 use rules::Given;
 
 // The scalar of a group is that of the link's peer.
-fn same_scalar(s: &[u8], w: usize, heard: [u8; COMMIT], group: u16) -> bool
+fn same_scalar(s: &[u8], w: usize, heard: &[u8], group: u16) -> bool
     requires { ⌜ (length (now s) ≡ recordSize w) × ((w ≤ width) × (48 ≤ w)) ⌝ }
-    ensures { λ x. ⌜ x ≡ same (part heard 0 (scalarLength group)) (part (decodePeer w (now (s .entry)) .link .peer) 0 (scalarLength group)) ⌝ }
+    ensures { λ x. ⌜ x ≡ same (part (stored (now (heard .entry))) 0 (scalarLength group)) (part (decodePeer w (now (s .entry)) .link .peer) 0 (scalarLength group)) ⌝ }
 {
     let n = groups::scalar_length(group);
     let peer = record::link_peer_of(s, w);
-    octets::same_part(&heard[..], 0, peer, 0, n)
+    groups::same_front(heard, peer, n)
 }
 
 // "finished link with that group and peer scalar"
 fn is_linked(s: &[u8], w: usize, v: View, body: &[u8]) -> bool
-    requires { ⌜ (length (now s) ≡ recordSize w) × ((w ≤ width) × ((48 ≤ w) × (v .toklen ≤ 256))) ⌝ }
+    requires { ⌜ (length (now s) ≡ recordSize w) × ((w ≤ width) × (48 ≤ w)) ⌝ }
     ensures { λ x. ⌜ x ≡ linkedWith (decodePeer w (now (s .entry)) .link) (messageOf (now (body .entry)) v) ⌝ }
 {
     let finished = record::finished_of(s, w);
@@ -60,37 +58,24 @@ fn is_wrong(crowded: bool, v: View, body: &[u8], expected: [u8; 32]) -> bool
     !same
 }
 
-// Two commits as they are stored. Where they have the narrow form's width, the compiler knows how many octets it looks at.
-fn same_stored(a: &[u8], b: &[u8]) -> bool
-    ensures { λ x. ⌜ x ≡ same (now (a .entry)) (now (b .entry)) ⌝ }
-{
-    if a.len() != NARROW_WIDTH {
-        return octets::is_same(a, b);
-    }
-    if b.len() != NARROW_WIDTH {
-        return octets::is_same(a, b);
-    }
-    octets::same_part(a, 0, b, 0, NARROW_WIDTH)
-}
-
 // "equal to our stock's"
 fn equals_fresh(v: View, body: &[u8], groups: &[u16], fresh: &[u8], w: usize) -> bool
-    requires { ⌜ Stocked w (now groups) (now fresh) × ((w ≤ width) × ((v .toklen ≤ 256) × Storable w (messageOf (now body) v .commit))) ⌝ }
+    requires { ⌜ Stocked w (now groups) (now fresh) × ((w ≤ width) × Storable w (messageOf (now body) v .commit)) ⌝ }
     ensures { λ x. ⌜ x ≡ same (messageOf (now (body .entry)) v .commit) (freshFor (now (groups .entry)) (freshOf w (now (fresh .entry))) (v .group)) ⌝ }
 {
     let heard = message::commit(body, v);
     let own = groups::fresh_for(groups, fresh, w, v.group);
-    same_stored(&heard[..w], own)
+    groups::same_front(heard, own, w)
 }
 
 // "equal to our commit"
 fn equals_own(s: &[u8], w: usize, v: View, body: &[u8]) -> bool
-    requires { ⌜ (length (now s) ≡ recordSize w) × ((w ≤ width) × ((v .toklen ≤ 256) × Storable w (messageOf (now body) v .commit))) ⌝ }
+    requires { ⌜ (length (now s) ≡ recordSize w) × ((w ≤ width) × Storable w (messageOf (now body) v .commit)) ⌝ }
     ensures { λ x. ⌜ x ≡ same (messageOf (now (body .entry)) v .commit) (decodePeer w (now (s .entry)) .run .own) ⌝ }
 {
     let heard = message::commit(body, v);
     let own = record::own_of(s, w);
-    same_stored(&heard[..w], own)
+    groups::same_front(heard, own, w)
 }
 
 // "Commit, no run, in this order"

@@ -13,12 +13,13 @@ use Rattle.octets.specs.Octets.{Bytes}
 use Rattle.octets.specs.declared.Found.{Found}
 use Rattle.octets.specs.declared.Found.the-variants as found
 use Rattle.groups.specs.Groups.{width, freshOk, Storable}
+use Rattle.groups.proofs.Laws.{take-zeros}
 use Rattle.groups.proofs.Fresh.{fresh-length}
 use Rattle.record.specs.declared.Header.{Header}
 use Rattle.record.specs.declared.Peer.{Peer}
 use Rattle.record.specs.declared.Run.{Run}
 use Rattle.record.specs.Layout.{groupsOf, widthIn, decodePeer, decodeHeader, headerOf, recordSize, recordAt, narrow, noPeer, noRun, periodOf, limitOf, factoryPeriod, factoryLimit}
-use Rattle.record.proofs.Laws.{ShapeRun, ShapePeer, shape-peer, take-zeros, form-width}
+use Rattle.record.proofs.Laws.{ShapeRun, ShapePeer, shape-peer, form-width}
 use Rattle.record.proofs.Windows.{no-peer-left}
 use Rattle.soundness.specs.Soundness.{headerOk, highSync, runOk, peerOk}
 use Rattle.soundness.proofs.Laws.{header-form, settings-form, header-groups, header-width, run-states, run-is-committed, run-is-confirmed, run-unused, peer-in-use, peer-unused}

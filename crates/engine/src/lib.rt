@@ -2,7 +2,6 @@
 // view of a frame's body are handed on: no function loads or reads them again.
 ghost use mathlib.Core.Path.{_≡_};
 ghost use mathlib.Core.List.{[]};
-ghost use Prim.Native.Nat.{_≤_};
 ghost use lib.ListN.{length};
 ghost use Rattle.octets.specs.Scan.{firstBelow};
 ghost use Rattle.octets.specs.declared.Found.the-variants.{At};

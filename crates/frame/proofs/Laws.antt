@@ -5,12 +5,13 @@ use mathlib.Core.List.{List, [], _++_, append-assoc}
 use Prim.Native.Nat.{ℕ, _+_, _-_, _≤_, _<_}
 use native.Mathlib.Omega.{arith}
 use lib.Dec.{ltb}
-use lib.ListN.{length, take, drop, length-append, length-drop, drop-of-length-le}
+use lib.ListN.{length, take, drop, length-append, length-take, length-drop, drop-of-length-le}
 use lib.Seq.{take-at, drop-at, take-all}
 use borrow.Author.Tests.{lt-ltb, le-ltb}
 use Rattle.octets.specs.Octets.{part, put, oct}
 use Rattle.octets.proofs.Laws.{put-put, part-add}
-use Rattle.groups.specs.Groups.{scalarLength, elementLength, commitLength, stored}
+use Rattle.groups.specs.Groups.{width, scalarLength, elementLength, commitLength}
+use Rattle.groups.proofs.Laws.{commit-fits}
 use Rattle.frame.specs.declared.Written.{Written}
 use Rattle.frame.specs.declared.Written.the-variants.{Length, Shape, Short}
 use Rattle.frame.specs.Frame.{elementsOf, tokenOf, scalarOf, elementOf, commitOf, head, body}
@@ -66,15 +67,21 @@ pub commit-is : (s : List ℕ) (g t : ℕ) → commitOf s g t ≡ part s (8 + t)
 unfolding commitOf scalarOf elementOf commitLength
 commit-is s g t = sym (part-add s (8 + t) (scalarLength g) (elementLength g))
 
-module _ (s : List ℕ) (g t m : ℕ) (r : List ℕ) (e : m ≡ commitLength g) where
-  pub commit-past : length s < 8 + t → r ≡ stored (part s (length s) 0) → r ≡ stored (commitOf s g t)
-  commit-past h p = p ∙ ap stored (part-past s (length s) 0 (omega arith) ∙ sym (part-past s (8 + t) (commitLength g) (omega arith)) ∙ sym (commit-is s g t))
+pub commit-short : (s : List ℕ) (g t : ℕ) → length (commitOf s g t) ≤ width
+unfolding part
+commit-short s g t = rw (commit-is s g t, length-take) (omega (arith, commit-fits g))
 
-  pub commit-rest : 8 + t ≤ length s → length s - (8 + t) < m → r ≡ stored (part s (8 + t) (length s - (8 + t))) → r ≡ stored (commitOf s g t)
-  commit-rest h k p = p ∙ ap stored (sym (part-rest s (8 + t) (commitLength g) h (omega arith)) ∙ sym (commit-is s g t))
+module _ (s : List ℕ) (g t : ℕ) where
+  pub commit-past : length s < 8 + t → take (length s - length s) (drop (length s) s) ≡ commitOf s g t
+  unfolding part
+  commit-past h = part-past s (length s) (length s - length s) (omega arith) ∙ sym (part-past s (8 + t) (commitLength g) (omega arith)) ∙ sym (commit-is s g t)
 
-  pub commit-whole : r ≡ stored (part s (8 + t) m) → r ≡ stored (commitOf s g t)
-  commit-whole p = p ∙ ap stored (ap (part s (8 + t)) e ∙ sym (commit-is s g t))
+  pub commit-rest : (m : ℕ) → m ≡ commitLength g → 8 + t ≤ length s → length s - (8 + t) < m → take (length s - (8 + t)) (drop (8 + t) s) ≡ commitOf s g t
+  unfolding part
+  commit-rest m e h k = sym (part-rest s (8 + t) (commitLength g) h (omega arith)) ∙ sym (commit-is s g t)
+
+  pub commit-whole : (m : ℕ) (r : List ℕ) → m ≡ commitLength g → r ≡ part s (8 + t) m → r ≡ commitOf s g t
+  commit-whole m r e p = p ∙ ap (part s (8 + t)) e ∙ sym (commit-is s g t)
 
 -- ---- where each part of a body stands
 

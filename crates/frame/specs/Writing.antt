@@ -1,5 +1,4 @@
 -- The writer: which octets a frame's parts make, what is answered, and what the lent buffer holds then.
-use mathlib.Core.Bool.{Bool, true, false, _&&_}
 use mathlib.Core.List.{List}
 use mathlib.Core.Path.{_≡_}
 use Prim.Native.Nat.{ℕ}
@@ -8,7 +7,7 @@ use lib.ListN.{length}
 use Rattle.octets.specs.Octets.{put}
 use Rattle.octets.specs.Scan.{if_then_else_}
 use Rattle.groups.specs.Groups.{commitLength, listed}
-use Rattle.frame.specs.Frame.{body, commitBody, tokenRequestBody, groupRefusalBody, confirmBody}
+use Rattle.frame.specs.Frame.{commitBody, tokenRequestBody, groupRefusalBody, confirmBody}
 use Rattle.frame.specs.declared.Body.{Body}
 use Rattle.frame.specs.declared.Body.the-variants.{Commit, TokenRequest, GroupRefusal, Confirm}
 use Rattle.frame.specs.declared.Written.{Written}

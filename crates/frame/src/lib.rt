@@ -2,11 +2,9 @@
 ghost use mathlib.Core.Path.{_≡_};
 ghost use Prim.Native.Nat.{_+_, _-_, _≤_};
 ghost use lib.ListN.{length, drop};
-ghost use Rattle.groups.specs.Groups.{stored};
 ghost use Rattle.octets.specs.Octets.{part, put, num};
 ghost use Rattle.frame.specs.Frame.{readBody, readCommit, readOffer, readListed, readTokenRequest, readGroupRefusal, readConfirm, wholeElements, elementsOf, tokenOf, commitOf, body, head, fieldAt, headOf};
 ghost use Rattle.frame.specs.Writing.{Writes, Octets, drawCommit, drawTokenRequest, drawGroupRefusal, drawConfirm, drawCommits, drawConfirms, partsBody};
-use groups::COMMIT;
 
 // The algorithm, the sequences and the statuses that bodies carry.
 const SAE: u16 = 3;
@@ -336,28 +334,23 @@ pub fn elements_of(frame: &[u8]) -> &[u8]
     part_at(frame, CONFIRM, all - CONFIRM)
 }
 
-// The stored form of a Commit's scalar and element, as many of their octets as there are.
-pub fn commit_of(frame: &[u8], group: u16, token: usize) -> [u8; COMMIT]
-    ensures { λ r. ⌜ r ≡ stored (commitOf (now (frame .entry)) group token) ⌝ }
+// A Commit's scalar and element: the caller's own octets, as many of them as there are.
+pub fn commit_of(frame: &[u8], group: u16, token: usize) -> &[u8]
+    ensures { λ r. ⌜ now r ≡ commitOf (now (frame .entry)) group token ⌝ }
 {
     let n = groups::commit_length(group);
     let all = frame.len();
     if all < HEAD {
-        return groups::stored_commit(frame, all, 0);
+        return &frame[all..all];
     }
     if all - HEAD < token {
-        return groups::stored_commit(frame, all, 0);
+        return &frame[all..all];
     }
     let at = HEAD + token;
     if all - at < n {
-        return groups::stored_commit(frame, at, all - at);
+        return &frame[at..all];
     }
-    // Of a length that is known beforehand, the octets are copied without a call.
-    let usual = groups::commit_length(19);
-    if n == usual {
-        return groups::stored_commit(frame, at, usual);
-    }
-    groups::stored_commit(frame, at, n)
+    part_at(frame, at, n)
 }
 
 // Algorithm, sequence, status, and group or counter, at the start of the buffer.

@@ -5,14 +5,15 @@ use Prim.Native.Nat.{ℕ, _≤_}
 use native.Mathlib.Omega.{arith}
 use native.Mathlib.Nat.{zero-add}
 use lib.Dec.{lit≤}
-use lib.ListN.{length, replicate, length-take}
+use lib.ListN.{length, take, replicate, length-take}
 use Rattle.octets.specs.Octets.{part, put}
-use mathlib.Core.Bool.{true}
-use Rattle.groups.specs.Groups.{width, listed, commitLength, Storable}
+use mathlib.Core.Bool.{Bool, true, false}
+use Rattle.groups.specs.Groups.{width, listed, commitLength, stored, Storable}
 use Rattle.groups.proofs.Laws.{drop-zeros, storable-short, storable-none}
 use Rattle.frame.specs.Frame.{readBody, tokenOf, commitOf}
 use Rattle.frame.specs.declared.Body.{Body}
 use Rattle.frame.specs.declared.Body.the-variants as body
+use Rattle.frame.proofs.Laws.{commit-short}
 use Rattle.frame.proofs.Shapes.{headed, commit-shape, token-request-shape}
 use Rattle.frame.proofs.RoundTrip.{commit-length-read}
 use Rattle.message.specs.declared.View.{View}
@@ -58,6 +59,16 @@ message-storable W gs frame w room = go (readBody gs frame) refl
     go (body.Confirm n) e = storable-none W w
     go (body.OtherConfirm s) e = storable-none W w
     go body.Malformed e = storable-none W w
+
+-- where it lies: as much of it as the body has, and nothing of a body that has none
+module _ (frame : List ℕ) (listed : Bool) (group n : ℕ) where
+  pub heard-commit : (r : List ℕ) → listed ≡ true → r ≡ commitOf frame group n → (length r ≤ width) × (stored r ≡ commitIn frame listed group n)
+  unfolding commitIn
+  heard-commit r l e = (rw e (commit-short frame group n), rw (l, e) refl)
+
+  pub heard-none : listed ≡ false → (length (take 0 frame) ≤ width) × (stored (take 0 frame) ≡ commitIn frame listed group n)
+  unfolding commitIn stored
+  heard-none l = (lit≤ tt, rw l refl)
 
 -- a body that was read is at most 2,304 octets
 pub view-long : (gs frame : List ℕ) → (view gs frame .sequence ≡ 0 → ⊥) → length frame ≤ 2304

@@ -2,9 +2,9 @@
 ghost use mathlib.Core.Path.{_≡_};
 ghost use Prim.Native.Nat.{_≤_};
 ghost use lib.ListN.{length};
+ghost use Rattle.groups.specs.Groups.{width, stored};
 ghost use Rattle.message.specs.View.{commitView, confirmView, viewOf, view, storedToken, messageOf};
 use frame::Body;
-use groups::COMMIT;
 
 // A body by its numbers: sequence (1 Commit, 2 Confirm, 0 not of the shapes), status, group, counter, whether the group is supported, and the
 // length of its token. What a body of its kind does not have is zero.
@@ -94,15 +94,14 @@ pub fn token(body: &[u8], v: View) -> [u8; 256]
     stored_token(frame::token_of(body, n))
 }
 
-// The scalar and the element of a body that was read, as they are stored, if it is a supported Commit.
-pub fn commit(body: &[u8], v: View) -> [u8; COMMIT]
-    requires { ⌜ v .toklen ≤ 256 ⌝ }
-    ensures { λ r. ⌜ r ≡ messageOf (now (body .entry)) v .commit ⌝ }
+// The scalar and the element of a body that was read, where they lie, if it is a supported Commit; of any other body no octets.
+pub fn commit(body: &[u8], v: View) -> &[u8]
+    ensures { λ r. ⌜ (length (now r) ≤ width) × (stored (now r) ≡ messageOf (now (body .entry)) v .commit) ⌝ }
 {
     let listed = v.listed;
     if listed {
         let n = v.toklen as usize;
         return frame::commit_of(body, v.group, n);
     }
-    [0u8; COMMIT]
+    &body[..0]
 }

@@ -1,5 +1,5 @@
 -- Each act by its name: what the leaf function left and said is what the book says.
-use mathlib.Core.Path.{_≡_, refl, sym, ap, _∙_, subst}
+use mathlib.Core.Path.{_≡_, refl, sym, _∙_, subst}
 use mathlib.Core.List.{List}
 use Prim.Native.Nat.{ℕ, _-_}
 use lib.ListN.{length, take, drop, getD}
@@ -131,6 +131,6 @@ module _ (W : ℕ) (x : Said) (left : List ℕ) (p : Peer) where
       → Does W x left (starting κ p address (getD gs 0 0) (freshAt fresh 0))
   begin-law address own gs fresh κ e d = subst (λ (o : List ℕ). Does W x left (starting κ p address (getD gs 0 0) o)) e d
 
--- the commit that was read is stored without loss
-pub commit-storable : (W : ℕ) (theirs : List ℕ) (m : Message) → theirs ≡ m .commit → Storable W (m .commit) → stored (take W theirs) ≡ m .commit
-commit-storable W theirs m e h = ap (λ (x : List ℕ). stored (take W x)) e ∙ h .same
+-- the commit that was read is stored without loss, where it lies too
+pub commit-storable : (W : ℕ) (heard : List ℕ) (m : Message) → stored heard ≡ m .commit → Storable W (m .commit) → Storable W (stored heard)
+commit-storable W heard m e h = subst (Storable W) (sym e) h

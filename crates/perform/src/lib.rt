@@ -119,7 +119,7 @@ fn answer_commit(
     let group = v.group;
     let at = record::link_at(w);
     let own = groups::fresh_for(groups, fresh, w, group);
-    let theirs = message::commit(body, v);
+    let heard = message::commit(body, v);
     let commit = acts::commit_frame(group);
     let confirm = acts::confirm_frame(1);
     acts::store_own(&mut s[RUN..at], w, own);
@@ -128,7 +128,7 @@ fn answer_commit(
         w,
         address,
         group,
-        &theirs[..w],
+        heard,
         Frames::Two(commit, confirm),
         group,
         clock,
@@ -137,19 +137,19 @@ fn answer_commit(
 
 // "Form, send Confirm".
 fn confirm_commit(s: &mut [u8], w: usize, g: Given, v: View, body: &[u8]) -> Said
-    requires { ⌜ Paced (g .clock) × ((length (now s) ≡ recordSize w) × ((w ≤ width) × ((v .toklen ≤ 256) × Storable w (messageOf (now body) v .commit)))) ⌝ }
+    requires { ⌜ Paced (g .clock) × ((length (now s) ≡ recordSize w) × ((w ≤ width) × Storable w (messageOf (now body) v .commit))) ⌝ }
     ensures { λ x. ⌜ Does w x (now (s .exit)) (confirmingCommit (g .clock) (decodePeer w (now (s .entry))) (g .address) (messageOf (now (body .entry)) v)) ⌝ }
 {
     let address = g.address;
     let clock = g.clock;
-    let theirs = message::commit(body, v);
+    let heard = message::commit(body, v);
     let confirm = acts::confirm_frame(1);
     acts::form_pair(
         s,
         w,
         address,
         v.group,
-        &theirs[..w],
+        heard,
         Frames::One(confirm),
         0,
         clock,

@@ -2,7 +2,6 @@
 -- must keep to.
 -- A history is a list of calls with the newest first; the time of a call is the number of calls before it.
 use mathlib.Core.Path.{_≡_}
-use mathlib.Core.Logic.{_⊎_}
 use mathlib.Core.Bool.{Bool, true, false}
 use mathlib.Core.List.{List, [], _∷_}
 use Prim.Native.Nat.{ℕ}

@@ -11,11 +11,10 @@ use lib.ListN.{length, take, drop}
 use lib.Seq.{length-take-le}
 use borrow.Author.Tests.{eq-eqb, ne-eqb, eqb-true, le-leb, leb-true, lt-ltb, ltb-true, not-true}
 use Rattle.octets.specs.Octets.{allZero}
-use Rattle.octets.specs.Scan.{if_then_else_}
 use Rattle.octets.proofs.Scan.{clash, and-left, and-right, and-both}
 use Rattle.octets.proofs.Tests.{zero-zeros}
 use Rattle.groups.specs.Groups.{width, known, listed, marked, indexOf}
-use Rattle.record.specs.Layout.{runSize, linkSize, recordSize, noRun, noLink, noPeer, narrow, noForm, formOf, formIn, widthIn, counted}
+use Rattle.record.specs.Layout.{runSize, linkSize, recordSize, noRun, noLink, noPeer, narrow, formOf, formIn, widthIn, counted}
 use Rattle.record.specs.declared.Form.{Form}
 use Rattle.record.specs.declared.Run.{Run}
 use Rattle.record.specs.declared.Link.{Link}
@@ -261,15 +260,6 @@ groups-form most n gs ok =
     let k₂ = and-right (leb n most) _ k₁ in
     let k₃ = and-right (allKnown (take n gs)) _ k₂ in
     record { some = leb-true _ _ (and-left _ _ ok); few = leb-true _ _ (and-left _ _ k₁); known = and-left _ _ k₂; once = and-left _ _ k₃; rest = and-right (eachOnce (take n gs)) _ k₃ }
-
--- no form has more than two groups
-pub form-groups : (size : ℕ) → formOf size .groups ≤ 2
-unfolding formOf
-form-groups size = go (eqb size 864)
-  where
-    go : (b : Bool) → (if b then narrow else noForm) .groups ≤ 2
-    go true = lit≤ tt
-    go false = lit≤ tt
 
 -- a list of one or two groups
 pub groups-length : (most n : ℕ) (gs : List ℕ) → most ≤ 2 → length gs ≡ 3 → groupsOk most n gs ≡ true → length (take n gs) ≡ n

@@ -9,7 +9,6 @@ use lib.Seq.{length-take-le, take-at, drop-at}
 use Rattle.octets.specs.Octets.{put}
 use Rattle.octets.specs.Scan.{bit}
 use Rattle.octets.proofs.Laws.{length-put, part-put-before}
-use Rattle.groups.specs.Groups.{width}
 use Rattle.record.specs.Layout.{decodePeer, decodeHeader, counted, widthIn, recordSize, recordAt}
 use Rattle.record.specs.declared.Counts.{Counts}
 use Rattle.record.specs.declared.Header.{Header}

@@ -1,7 +1,7 @@
 -- What octets say always fits: their table is that of its octets again. A record that fits, placed, leaves a table that fits.
 use mathlib.Core.Path.{_≡_, _∙_}
 use mathlib.Core.List.{List}
-use Prim.Native.Nat.{ℕ, zero, suc, _+_, _-_, _*_, _/_, _≤_, _<_}
+use Prim.Native.Nat.{ℕ, zero, suc, _-_, _*_, _/_, _≤_, _<_}
 use native.Mathlib.Omega.{arith}
 use lib.ListN.{length, take, drop, getD, set, length-drop}
 use lib.Seq.{length-take-le}
@@ -14,7 +14,7 @@ use Rattle.record.specs.declared.Peer.{Peer}
 use Rattle.record.specs.Layout.{widthIn, recordSize, recordAt, noPeer}
 use Rattle.record.proofs.Laws.{FitPeer, StorablePeer, fit-peer, storable-peer, fit-header, form-width}
 use Rattle.table.specs.Table.{Table, widthOf, decodeTable, encodeTable, peersOf, slots, slot, inUse, isOpen, recounted, withPeer, placed, usedCount, openCount}
-use Rattle.table.proofs.Octets.{next, many, after-header, Fits, none, more, FitTable, bytes-table}
+use Rattle.table.proofs.Octets.{next, many, Fits, none, more, FitTable, bytes-table}
 
 fit-peers : (W n : ℕ) (s : List ℕ) → W ≤ width → Bytes s → length s ≡ recordSize W * n → Fits W (peersOf W n s)
 unfolding peersOf part

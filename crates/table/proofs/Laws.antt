@@ -3,7 +3,7 @@ use mathlib.Core.Path.{_≡_, refl, sym, ap, _∙_, subst}
 use mathlib.Core.Logic.{_⊎_, inl, inr}
 use mathlib.Core.Bool.{Bool, true, false, not, _&&_, _||_}
 use mathlib.Core.List.{List}
-use Prim.Native.Nat.{ℕ, zero, suc, _+_, _-_, _*_, _/_, _^_, _≤_, _<_}
+use Prim.Native.Nat.{ℕ, zero, suc, _+_, _-_, _*_, _^_, _≤_, _<_}
 use native.Mathlib.Omega.{arith}
 use native.Mathlib.Nat.{mul-le-mul}
 use native.Mathlib.Decide.{ℕ-discrete, decLt}
@@ -22,9 +22,9 @@ use Rattle.record.specs.declared.Counts.{Counts}
 use Rattle.record.specs.declared.Header.{Header}
 use Rattle.groups.specs.Groups.{width}
 use Rattle.record.specs.Layout.{widthIn, recordSize, recordAt, groupsOf, limitOf}
-use Rattle.record.proofs.Laws.{form-width, record-below}
+use Rattle.record.proofs.Laws.{record-below}
 use Rattle.soundness.specs.Soundness.{usable, headerOk, highSync, peerOk}
-use Rattle.soundness.proofs.Laws.{header-form, settings-form, header-groups, header-known, geometry-known}
+use Rattle.soundness.proofs.Laws.{header-form, settings-form, header-groups, header-known}
 use Rattle.table.specs.Table.{Table, widthOf, decodeTable, slot, slots, inUse, isOpen, belongs, alone, slotsOk, addressesOk, countsOk, sound, usedCount, openCount, countsOf, finds, freeSlot, entry, foundEntry, withPeer, standingOf, Changed, Ready, Whole, Reaches, Reached, Sized, Looked, Enters}
 use Rattle.table.specs.declared.Entrance.{Entrance}
 use Rattle.table.specs.declared.Standing.{Standing}

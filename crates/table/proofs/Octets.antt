@@ -5,7 +5,6 @@ use mathlib.Core.List.{List, [], _∷_, _++_, append-assoc}
 use Prim.Native.Nat.{ℕ, zero, suc, _+_, _-_, _*_, _/_, _≤_, _<_}
 use native.Mathlib.Omega.{arith}
 use native.Mathlib.Nat.{mul-suc, mul-zero, mul-comm, le-div-iff-mul-le, mul-div-cancel-left}
-use lib.Dec.{lit≤}
 use lib.ListN.{length, take, drop, getD, set, length-append, length-drop, take-append-drop}
 use lib.Seq.{length-take-le, take-at, drop-at, take-add, drop-drop}
 use Rattle.octets.specs.Octets.{part, put, num, oct, Bytes}
@@ -14,9 +13,8 @@ use Rattle.groups.specs.Groups.{width}
 use Rattle.record.specs.declared.Counts.{Counts}
 use Rattle.record.specs.Layout.{encodePeer, decodePeer, encodeHeader, decodeHeader, headerOf, headerWidths, counted, widthIn, recordSize, recordAt, noPeer}
 use Rattle.record.specs.Codec.{cut}
-use Rattle.record.specs.declared.Header.{Header}
 use Rattle.record.specs.declared.Peer.{Peer}
-use Rattle.record.proofs.Laws.{enc-dec-peer, dec-enc-peer, ShapePeer, FitPeer, StorablePeer, shape-peer, length-peer, bytes-peer, peer-at, enc-dec-header, dec-enc-header, length-header, bytes-header, header-front, counted-put, num-part, FitHeader, form-width, record-first, record-below}
+use Rattle.record.proofs.Laws.{enc-dec-peer, dec-enc-peer, ShapePeer, FitPeer, StorablePeer, shape-peer, length-peer, bytes-peer, peer-at, enc-dec-header, dec-enc-header, length-header, bytes-header, header-front, counted-put, num-part, FitHeader, form-width, record-below}
 use Rattle.record.proofs.Windows.{state-law, address-law}
 use Rattle.table.specs.Table.{Table, peersOf, octetsOf, widthOf, decodeTable, encodeTable, slot, recounted, withPeer, placed, usedCount, openCount, countsOf, Reached}
 

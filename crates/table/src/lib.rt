@@ -7,7 +7,7 @@ ghost use lib.Dec.{eqb};
 ghost use lib.ListN.{length, getD, replicate};
 ghost use Rattle.octets.specs.Octets.{num};
 ghost use Rattle.octets.specs.Scan.{allBelow, countBelow, firstBelow, lastBelow, bit};
-ghost use Rattle.record.specs.Layout.{encodeHeader, widthIn};
+ghost use Rattle.record.specs.Layout.{encodeHeader};
 ghost use Rattle.soundness.specs.Soundness.{peerOk};
 ghost use Rattle.table.specs.Table.{decodeTable, encodeTable, slots, slot, inUse, isOpen, finds, freeSlot, usedCount, countsOf, slotsOk, alone, addressesOk, countsOk, sound, entry, recounted, key, newKey, standingOf, Changed, Whole, Headed, Reaches, Reached, Sized, Looked, Checks, Enters};
 ghost use Rattle.table.specs.Initial.{slotsFor, lengthOk, initialHeader, initialOk, initial};

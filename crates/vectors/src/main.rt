@@ -10,7 +10,6 @@
 //   silent      the clock at every millisecond from 0 on: the readings at which it served, until the run is given up
 // Reader and writer of `has` and `again` are the C functions over the table that stands. A line that begins with # is written again; any other
 // line is left out. Calls write the number returned, event, stock group used, frames.
-ghost use mathlib.Core.Path.{_≡_};
 ghost use Prim.Native.Nat.{_<_, _≤_};
 ghost use lib.ListN.{length};
 use answers::Answer;

@@ -1,9 +1,7 @@
 -- The writer: from a frame's parts, or from a record; what it answers and what it leaves of the lent buffer.
 use mathlib.Core.Path.{_≡_}
-use mathlib.Core.Bool.{Bool, true, false, not}
-use mathlib.Core.List.{List, []}
+use mathlib.Core.List.{List}
 use Prim.Native.Nat.{ℕ, _≤_}
-use lib.Dec.{eqb}
 use lib.ListN.{length, take}
 use Rattle.octets.specs.Scan.{if_then_else_}
 use Rattle.groups.specs.Groups.{width, commitLength}
@@ -12,7 +10,7 @@ use Rattle.frame.specs.declared.Written.{Written}
 use Rattle.frame.specs.declared.Written.the-variants as written-is
 use Rattle.record.specs.declared.Peer.{Peer}
 use Rattle.record.specs.Layout.{decodePeer, recordSize, groupsOf}
-use Rattle.table.specs.Table.{Table, decodeTable, slot, sound, entry}
+use Rattle.table.specs.Table.{decodeTable, slot, sound, entry}
 use Rattle.table.specs.declared.Entry.{Entry}
 use Rattle.table.specs.declared.Entry.the-variants.{Unsound, Unusable, Absent, At}
 use Rattle.rules.specs.Book.{_is_, _isnt_}

@@ -1,4 +1,3 @@
-use Rattle.octets.proofs.Laws.{prefix-count}
 use Rattle.decide.proofs.Rungs.{same-commit-law}
 use borrow.Author.Needs.{needs}
 use Rattle.decide.proofs.equals_fresh.Statement.{statement}
@@ -10,25 +9,15 @@ commit-requires c κs = search needs
 fresh-for-requires : tie.Need-fresh-for-requires
 fresh-for-requires c κs = search needs
 
-array-share-prefix-heard : tie.Need-array-share-prefix-heard
-array-share-prefix-heard c = search needs
-
-slice-aggregate-same-stored : tie.Need-slice-aggregate-same-stored
-slice-aggregate-same-stored c = prefix-count _ _ (search needs)
-
-same-stored-requires : tie.Need-same-stored-requires
-same-stored-requires c κs = search needs
+same-front-requires : tie.Need-same-front-requires
+same-front-requires c κs = search needs
 
 returns : tie.Need-returns
-returns c = same-commit-law _ _ _ _ _ _ (search needs) (c .before .before .before .commit .ensures) (search needs) (c .before .before .fresh-for .ensures .0) (c .before .before .fresh-for .ensures .1) (c .same-stored .ensures)
+returns c =
+    let d = c .before in
+    let e = d .before in
+    same-commit-law _ _ _ _ _ _ (search needs) (e .commit .ensures .0) (e .commit .ensures .1) (search needs) (d .fresh-for .ensures .0) (d .fresh-for .ensures .1) (c .same-front .ensures)
 
 pub equals-fresh-spec : {M : Type 1} → statement M
 equals-fresh-spec =
-    tie.close
-    (tie.spec
-    commit-requires
-    fresh-for-requires
-    array-share-prefix-heard
-    slice-aggregate-same-stored
-    same-stored-requires
-    returns)
+    tie.close (tie.spec commit-requires fresh-for-requires same-front-requires returns)

@@ -1,8 +1,8 @@
 use borrow.Author.Needs.{needs}
 use native.Mathlib.Omega.{arith}
 use lib.ListN.{length, drop}
-use Prim.Native.Nat.{_+_, _≤_, _<_, _*_, _-_}
-use mathlib.Core.Path.{_≡_, refl, sym, _∙_}
+use Prim.Native.Nat.{_≤_, _*_, _-_}
+use mathlib.Core.Path.{_≡_, sym, _∙_}
 use Rattle.groups.proofs.Laws.{room-below, room-in}
 use Rattle.groups.proofs.Fresh.{tails-bad, tails-good, tails-end}
 use Rattle.groups.specs.Groups.{freshOf, tailsOk}

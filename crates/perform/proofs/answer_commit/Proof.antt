@@ -1,7 +1,6 @@
-use mathlib.Core.Path.{sym, _∙_}
+use mathlib.Core.Path.{_∙_}
 use Rattle.message.specs.View.{messageOf}
 use Rattle.acts.proofs.Laws.{run-lent, run-kept}
-use Rattle.octets.proofs.Laws.{prefix-count}
 use Rattle.perform.proofs.Performs.{answer-law, commit-storable}
 use borrow.Author.Needs.{needs}
 use Rattle.perform.proofs.answer_commit.Statement.{statement}
@@ -34,21 +33,16 @@ part-store-own-end c = search needs
 store-own-requires : tie.Need-store-own-requires
 store-own-requires c κs = search needs
 
-array-share-prefix-theirs : tie.Need-array-share-prefix-theirs
-array-share-prefix-theirs c = search needs
-
-slice-aggregate-form-pair : tie.Need-slice-aggregate-form-pair
-slice-aggregate-form-pair c = prefix-count _ _ (search needs)
-
 form-pair-requires : tie.Need-form-pair-requires
 form-pair-requires c κs =
-    let d = c .before .before .before .before in
+    let d = c .before .before .before in
     let e = d .before .before .before .before in
     let f = e .before .before in
     let k = f .before .before .before .before .before .before .before in
     let r = k .pre .record-is in
     let n = d .store-own .kept .0 ∙ run-lent _ _ (k .args .s .now) (f .link-at .ensures) (r .size) in
-    (r .paced, (run-kept _ _ (k .args .s .now) (d .store-own .last .0) (f .link-at .ensures) (r .size) n, (r .most, sym (prefix-count _ _ (search needs)))))
+    let t = commit-storable _ _ (messageOf (k .args .body .now) (k .args .v)) (e .commit .ensures .1) (k .pre .commit) in
+    (r .paced, (run-kept _ _ (k .args .s .now) (d .store-own .last .0) (f .link-at .ensures) (r .size) n, (r .most, (e .commit .ensures .0, t))))
 
 same-length : tie.Need-same-length
 same-length c = search needs
@@ -56,7 +50,7 @@ same-length c = search needs
 returns : tie.Need-returns
 returns c =
     let d = c .before .before in
-    let e = d .before .before .before .before .before in
+    let e = d .before .before .before .before in
     let f = e .before .before in
     let g = f .before in
     let h = g .before in
@@ -66,7 +60,7 @@ returns c =
     let r = k .pre .record-is in
     let n = e .store-own .kept .0 ∙ run-lent _ _ (k .args .s .now) (j .link-at .ensures) (r .size) in
     answer-law _ _ (j .link-at .ensures) _ _ (e .store-own .last .0) _ _ (messageOf (k .args .body .now) (k .args .v)) _ _ _ _ _ _ _ (r .size) n
-    (e .store-own .ensures) (i .fresh-for .ensures .1) (commit-storable _ _ (messageOf (k .args .body .now) (k .args .v)) (h .commit .ensures) (k .pre .commit)) (g .commit-frame .ensures) (f .confirm-frame .ensures) (d .form-pair .ensures)
+    (e .store-own .ensures) (i .fresh-for .ensures .1) (h .commit .ensures .1) (g .commit-frame .ensures) (f .confirm-frame .ensures) (d .form-pair .ensures)
 
 pub answer-commit-spec : {M : Type 1} → statement M
 answer-commit-spec =
@@ -81,8 +75,6 @@ answer-commit-spec =
     part-store-own-start
     part-store-own-end
     store-own-requires
-    array-share-prefix-theirs
-    slice-aggregate-form-pair
     form-pair-requires
     same-length
     returns)

@@ -2,8 +2,8 @@ use borrow.Author.Needs.{needs}
 use Rattle.record.proofs.Windows.{zero-more, zeros-law}
 use lib.ListN.{length, getD, length-set}
 use native.Mathlib.Omega.{arith}
-use Prim.Native.Nat.{ℕ, _≤_, _<_, _-_, _+_}
-use mathlib.Core.Path.{_≡_, refl, sym, ap, _∙_}
+use Prim.Native.Nat.{ℕ, _≤_, _<_, _-_}
+use mathlib.Core.Path.{_≡_, _∙_}
 use Rattle.record.proofs.clear.Statement.{statement}
 use Rattle.record.proofs.clear.Tie as tie
 

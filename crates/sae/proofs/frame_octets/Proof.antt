@@ -1,6 +1,6 @@
 -- `sae::frame_octets` meets its contract: each return by its law of Laws.
 use Rattle.sae.proofs.Laws.{frame-laid}
-use mathlib.Core.Path.{_≡_, refl}
+use mathlib.Core.Path.{refl}
 use borrow.Author.Needs.{needs}
 use Rattle.sae.proofs.frame_octets.Statement.{statement}
 use Rattle.sae.proofs.frame_octets.Tie as tie

@@ -1,6 +1,6 @@
 -- `sae::framed` meets its contract: each return by its law of Laws.
 use Rattle.sae.proofs.Laws.{framed-laid}
-use mathlib.Core.Path.{_≡_, refl}
+use mathlib.Core.Path.{_≡_}
 use lib.ListN.{length}
 use borrow.Author.Needs.{needs}
 use Rattle.sae.proofs.framed.Statement.{statement}

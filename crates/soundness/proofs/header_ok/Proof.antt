@@ -2,7 +2,7 @@ use mathlib.Core.Path.{sym, subst}
 use Prim.Native.Nat.{_≤_}
 use Rattle.record.specs.declared.Form.{Form}
 use Rattle.soundness.specs.Soundness.{headerOk}
-use Rattle.soundness.proofs.Laws.{form-groups}
+use Rattle.record.proofs.Laws.{form-groups}
 use borrow.Author.Needs.{needs}
 use Rattle.soundness.proofs.header_ok.Statement.{statement}
 use Rattle.soundness.proofs.header_ok.Tie as tie

@@ -1,11 +1,10 @@
 use borrow.Author.Needs.{needs}
 use Rattle.octets.proofs.Scan.{all-none, all-more, all-broke, all-through}
-use Rattle.octets.specs.Scan.{allBelow, countBelow, firstBelow, lastBelow, bit}
-use Rattle.table.specs.Table.{decodeTable, slot, inUse, isOpen, key, newKey}
-use native.Mathlib.Omega.{arith}
-use Prim.Native.Nat.{ℕ, _≤_, _<_, _-_, _+_}
-use mathlib.Core.Bool.{true, false, not, _&&_}
-use mathlib.Core.Path.{_≡_, refl, sym, ap, _∙_}
+use Rattle.octets.specs.Scan.{allBelow}
+use Rattle.table.specs.Table.{newKey}
+use Prim.Native.Nat.{_≤_, _-_}
+use mathlib.Core.Bool.{true}
+use mathlib.Core.Path.{_≡_, sym, _∙_}
 use Rattle.table.proofs.all_new.Statement.{statement}
 use Rattle.table.proofs.all_new.Tie as tie
 

@@ -3,13 +3,12 @@ use borrow.Author.Needs.{needs}
 use Rattle.octets.proofs.Scan.{first-none, first-more, first-hit, first-through}
 use Rattle.octets.specs.Octets.{num}
 use lib.Dec.{eqb}
-use Rattle.octets.specs.declared.Found.the-variants.{At, Nothing}
-use Rattle.octets.specs.Scan.{allBelow, countBelow, firstBelow, lastBelow, bit}
-use Rattle.table.specs.Table.{decodeTable, slot, inUse, isOpen, key, newKey}
-use native.Mathlib.Omega.{arith}
-use Prim.Native.Nat.{ℕ, _≤_, _<_, _-_, _+_}
-use mathlib.Core.Bool.{true, false, not, _&&_}
-use mathlib.Core.Path.{_≡_, refl, sym, ap, _∙_}
+use Rattle.octets.specs.declared.Found.the-variants.{Nothing}
+use Rattle.octets.specs.Scan.{firstBelow}
+use Rattle.table.specs.Table.{decodeTable, slot, inUse}
+use Prim.Native.Nat.{_≤_, _-_}
+use mathlib.Core.Bool.{_&&_}
+use mathlib.Core.Path.{_≡_, sym, _∙_}
 use Rattle.table.proofs.find_below.Statement.{statement}
 use Rattle.table.proofs.find_below.Tie as tie
 

@@ -3,11 +3,11 @@ use borrow.Author.Needs.{needs}
 use borrow.Author.Tests.{eq-eqb, ne-eqb}
 use Rattle.octets.proofs.Scan.{last-found, last-step, last-through}
 use lib.Dec.{eqb}
-use Rattle.octets.specs.Scan.{allBelow, countBelow, firstBelow, lastBelow, bit}
-use Rattle.table.specs.Table.{decodeTable, slot, inUse, isOpen, key, newKey}
+use Rattle.octets.specs.Scan.{lastBelow}
+use Rattle.table.specs.Table.{decodeTable, slot}
 use native.Mathlib.Omega.{arith}
-use Prim.Native.Nat.{ℕ, _≤_, _<_, _-_, _+_}
-use mathlib.Core.Path.{_≡_, refl, sym, ap, _∙_}
+use Prim.Native.Nat.{_≤_, _-_}
+use mathlib.Core.Path.{_≡_, refl, sym, _∙_}
 use Rattle.table.proofs.free_below.Statement.{statement}
 use Rattle.table.proofs.free_below.Tie as tie
 
