@@ -5,9 +5,10 @@
  * SEED is a number, 1 unless given; LOSS is the percentage of frames that are lost, 25 unless given. Each line tells what a printer does;
  * the last one tells whether both hold the same pair. Exit status: 0 they do, 1 they do not, 2 wrong words, 3 what must not be.
  *
- * A prefers group 20 and lists 19 too. B lists 19 alone and asks every peer for a token, so that a status 77 and a status 76 are seen. A
- * has also been told of a third printer, C, which is switched off; it is taken back by a kill. B starts too in one of two plays. B's host
- * puts a vendor's element behind its Confirms, as some access points do: A finds it with sae_read, and its engine does not mind it.
+ * A prefers group 21 and lists 20 and 19 too. B does not list 21 and asks every peer for a token, so that a status 77, the next group and
+ * a status 76 are seen. A has also been told of a third printer, C, which is switched off; it is taken back by a kill. B starts too in one
+ * of two plays. B's host puts a vendor's element behind its Confirms, as some access points do: A finds it with sae_read, and its engine
+ * does not mind it.
  *
  * The chip is a stand-in: its scalars, elements and Confirm values are numbers that anyone can work out. It is no cryptography. */
 
@@ -26,14 +27,15 @@ enum {
     LAST_MS = 30000
 };
 
-/* A printer: its settings, its table, the fresh commits that it offers, and what its clock shows when the play begins. */
+/* A printer: its settings, its table, of the form that sae_initialize makes, the fresh commits that it offers, and what its clock shows
+ * when the play begins. */
 struct printer {
     char name;
     uint8_t address[SAE_ADDRESS_LEN];
     uint32_t clock_begins;
     uint8_t settings[SAE_SETTINGS_LEN];
-    uint8_t table[SAE_TABLE_LEN(SLOTS)];
-    uint8_t fresh[SAE_FRESH_LEN(SAE_MAX_GROUPS)];
+    uint8_t table[SAE_TABLE_LEN(SAE_WIDE, SLOTS)];
+    uint8_t fresh[SAE_FRESH_LEN(SAE_WIDE, SAE_MAX_GROUPS(SAE_WIDE))];
     uint32_t commits_made;
 };
 
@@ -50,14 +52,18 @@ static struct printer printers[2] = {
     {.name = 'A',
      .address = {0x02, 0, 0, 0, 0, 0x0a},
      .clock_begins = 1000,
-     .settings = {[SAE_SETTINGS_COUNT] = 2,
-                  [SAE_SETTINGS_GROUPS] = SAE_GROUP_20,
-                  [SAE_SETTINGS_GROUPS + 2] = SAE_GROUP_19,
+     .settings = {[SAE_SETTINGS_COUNT] = 3,
+                  [SAE_SETTINGS_GROUPS] = SAE_GROUP_21,
+                  [SAE_SETTINGS_GROUPS + 2] = SAE_GROUP_20,
+                  [SAE_SETTINGS_GROUPS + 4] = SAE_GROUP_19,
                   [SAE_SETTINGS_THRESHOLD] = SAE_FACTORY_THRESHOLD}},
     {.name = 'B',
      .address = {0x02, 0, 0, 0, 0, 0x0b},
      .clock_begins = UINT32_MAX - 60, /* it soon wraps */
-     .settings = {[SAE_SETTINGS_COUNT] = 1, [SAE_SETTINGS_GROUPS] = SAE_GROUP_19, [SAE_SETTINGS_THRESHOLD] = 0}},
+     .settings = {[SAE_SETTINGS_COUNT] = 2,
+                  [SAE_SETTINGS_GROUPS] = SAE_GROUP_20,
+                  [SAE_SETTINGS_GROUPS + 2] = SAE_GROUP_19,
+                  [SAE_SETTINGS_THRESHOLD] = 0}},
 };
 static const uint8_t switched_off[SAE_ADDRESS_LEN] = {0x02, 0, 0, 0, 0, 0x0c};
 static struct frame air[IN_FLIGHT];
@@ -139,7 +145,7 @@ static const char *standing(const uint8_t *record)
 {
     if (record == NULL)
         return "no record";
-    int link = record[SAE_RECORD_LINK];
+    int link = record[SAE_RECORD_LINK(SAE_WIDE)];
     switch (record[SAE_RECORD_STATE]) {
     case SAE_RUN_COMMITTED:
         return link ? "Committed, beside a link" : "Committed";
@@ -160,9 +166,10 @@ struct pair {
 static int pair_of(const uint8_t *record, struct pair *pair)
 {
     if (record != NULL && record[SAE_RECORD_STATE] == SAE_RUN_CONFIRMED)
-        *pair = (struct pair){get16(record + SAE_RECORD_GROUP), record + SAE_RECORD_OWN, record + SAE_RECORD_PEER};
+        *pair = (struct pair){get16(record + SAE_RECORD_GROUP), record + SAE_RECORD_OWN, record + SAE_RECORD_PEER(SAE_WIDE)};
     else if (record != NULL && record[SAE_RECORD_STATE] == SAE_RUN_NOTHING)
-        *pair = (struct pair){get16(record + SAE_RECORD_LINK_GROUP), record + SAE_RECORD_LINK_OWN, record + SAE_RECORD_LINK_PEER};
+        *pair = (struct pair){get16(record + SAE_RECORD_LINK_GROUP(SAE_WIDE)), record + SAE_RECORD_LINK_OWN(SAE_WIDE),
+                              record + SAE_RECORD_LINK_PEER(SAE_WIDE)};
     else
         return 0;
     return 1;
@@ -181,15 +188,27 @@ static size_t groups_of(const struct printer *printer)
     return printer->settings[SAE_SETTINGS_COUNT];
 }
 
+/* Octets of scalar and element. */
+static size_t commit_length(uint16_t group)
+{
+    switch (group) {
+    case SAE_GROUP_19:
+        return 32 + 64;
+    case SAE_GROUP_20:
+        return 48 + 96;
+    default:
+        return 66 + 132;
+    }
+}
+
 /* Makes a commit unlike all before, for the group at this place of the list. */
 static void chip_make(struct printer *printer, size_t place)
 {
     uint16_t group = get16(printer->settings + SAE_SETTINGS_GROUPS + 2 * place);
-    size_t length = group == SAE_GROUP_19 ? 32 + 64 : 48 + 96;
-    uint8_t *commit = printer->fresh + SAE_COMMIT_LEN * place;
+    uint8_t *commit = printer->fresh + SAE_FRESH_LEN(SAE_WIDE, place);
     uint32_t serial = ++printer->commits_made;
-    memset(commit, 0, SAE_COMMIT_LEN);
-    for (size_t at = 0; at < length; at++)
+    memset(commit, 0, SAE_COMMIT_LEN(SAE_WIDE));
+    for (size_t at = 0; at < commit_length(group); at++)
         commit[at] = (uint8_t)mix(mix(printer->address[5], serial), (uint32_t)at);
 }
 
@@ -207,7 +226,7 @@ static void chip_renew(struct printer *printer, const uint8_t answer[SAE_ANSWER_
 static void chip_value(uint16_t group, const uint8_t *from, const uint8_t *to, uint16_t counter, uint8_t value[SAE_VALUE_LEN])
 {
     uint32_t sum = mix(group, counter);
-    for (size_t at = 0; at < SAE_COMMIT_LEN; at++)
+    for (size_t at = 0; at < SAE_COMMIT_LEN(SAE_WIDE); at++)
         sum = mix(mix(sum, from[at]), to[at]);
     for (size_t at = 0; at < SAE_VALUE_LEN; at++)
         value[at] = (uint8_t)mix(sum, (uint32_t)at);
@@ -348,8 +367,8 @@ static void initiate(struct printer *printer, const uint8_t *address)
     uint8_t answer[SAE_ANSWER_LEN], token[SAE_EXPECTED_LEN];
     tell(printer, "starts with %c", name_of(address));
     expected_token(printer, address, token);
-    done(sae_initiate(printer->table, sizeof printer->table, address, reading(printer), printer->fresh, SAE_FRESH_LEN(groups_of(printer)),
-                      answer),
+    done(sae_initiate(printer->table, sizeof printer->table, address, reading(printer), printer->fresh,
+                      SAE_FRESH_LEN(SAE_WIDE, groups_of(printer)), answer),
          "sae_initiate");
     serve(printer, answer, token);
 }
@@ -363,7 +382,7 @@ static void receive(struct printer *printer, const struct frame *frame)
     const char *before = standing(record_of(printer, sender));
     expected_token(printer, sender, token);
     done(sae_receive(printer->table, sizeof printer->table, sender, reading(printer), frame->octets, frame->length, printer->fresh,
-                     SAE_FRESH_LEN(groups_of(printer)), token, sizeof token, chip_verdict(printer, frame), answer),
+                     SAE_FRESH_LEN(SAE_WIDE, groups_of(printer)), token, sizeof token, chip_verdict(printer, frame), answer),
          "sae_receive");
     const char *after = standing(record_of(printer, sender));
     int idle = answer[SAE_ANSWER_EVENT] == SAE_EVENT_NONE && answer[SAE_ANSWER_COUNT] == 0;
@@ -443,17 +462,18 @@ static void happen(void)
 static int judge(void)
 {
     const uint8_t *a = record_of(&printers[0], printers[1].address), *b = record_of(&printers[1], printers[0].address);
-    int linked_a = a != NULL && a[SAE_RECORD_LINK], linked_b = b != NULL && b[SAE_RECORD_LINK];
+    int linked_a = a != NULL && a[SAE_RECORD_LINK(SAE_WIDE)], linked_b = b != NULL && b[SAE_RECORD_LINK(SAE_WIDE)];
     if (!linked_a || !linked_b) {
         printf("No: A holds %s, B holds %s.\n", linked_a ? "a link" : "none", linked_b ? "a link" : "none");
         return 1;
     }
-    int same = memcmp(a + SAE_RECORD_LINK_GROUP, b + SAE_RECORD_LINK_GROUP, 2) == 0 &&
-               memcmp(a + SAE_RECORD_LINK_OWN, b + SAE_RECORD_LINK_PEER, SAE_COMMIT_LEN) == 0 &&
-               memcmp(a + SAE_RECORD_LINK_PEER, b + SAE_RECORD_LINK_OWN, SAE_COMMIT_LEN) == 0;
-    int clear = !a[SAE_RECORD_SUPERSEDED] && !b[SAE_RECORD_SUPERSEDED];
+    int same = memcmp(a + SAE_RECORD_LINK_GROUP(SAE_WIDE), b + SAE_RECORD_LINK_GROUP(SAE_WIDE), 2) == 0 &&
+               memcmp(a + SAE_RECORD_LINK_OWN(SAE_WIDE), b + SAE_RECORD_LINK_PEER(SAE_WIDE), SAE_COMMIT_LEN(SAE_WIDE)) == 0 &&
+               memcmp(a + SAE_RECORD_LINK_PEER(SAE_WIDE), b + SAE_RECORD_LINK_OWN(SAE_WIDE), SAE_COMMIT_LEN(SAE_WIDE)) == 0;
+    int clear = !a[SAE_RECORD_SUPERSEDED(SAE_WIDE)] && !b[SAE_RECORD_SUPERSEDED(SAE_WIDE)];
     if (same)
-        printf("Yes: both hold the same pair, group %u%s.\n", get16(a + SAE_RECORD_LINK_GROUP), clear ? "" : ", one of them marked");
+        printf("Yes: both hold the same pair, group %u%s.\n", get16(a + SAE_RECORD_LINK_GROUP(SAE_WIDE)),
+               clear ? "" : ", one of them marked");
     else
         printf("No: their pairs differ, %s.\n", clear ? "and neither is marked: this must not be" : "and the older one is marked");
     return same ? 0 : clear ? 3 : 1;

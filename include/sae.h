@@ -8,7 +8,8 @@
  * numbers, and the first one that holds is returned. After a refusal every lent octet is as it was: table, answer, written, out, parts,
  * milliseconds and offset. No argument makes a call undefined, but for the rules of C: a pointer is not null, also where its length is 0
  * (nothing is read there, but it may not be null), and points to as many octets as the length says; nothing that a call may write
- * overlaps anything else that is lent to it (what has length 0 overlaps nothing). No alignment is asked of octets; `written`, `milliseconds` and `offset` are uint32_t.
+ * overlaps anything else that is lent to it (what has length 0 overlaps nothing). No alignment is asked of octets; `written`,
+ * `milliseconds` and `offset` are uint32_t.
  *
  * Fields of more than one octet are little-endian everywhere. Addresses are six octets, first octet first.
  */
@@ -24,7 +25,7 @@ extern "C" {
 
 /* The version of this interface. The first number rises when a host must be looked at again: a call's arguments, a layout or what a call
  * does has changed. The second rises when calls or names were added. */
-#define SAE_VERSION_MAJOR 2
+#define SAE_VERSION_MAJOR 3
 #define SAE_VERSION_MINOR 0
 
 /* Lengths, in octets. */
@@ -34,23 +35,31 @@ extern "C" {
 #define SAE_PARTS_LEN 20
 #define SAE_EXPECTED_LEN 32 /* the token that the host expects from a sender */
 #define SAE_VALUE_LEN 32    /* the value of a Confirm */
-#define SAE_COMMIT_LEN 144  /* a stored commit: scalar, element, zeros behind a shorter one */
 #define SAE_TOKEN_LEN 256   /* the longest token */
-#define SAE_FRAME_LEN 408   /* the longest frame body that the writers write */
+#define SAE_FRAME_LEN 462   /* the longest frame body that the writers write */
 #define SAE_BODY_LEN 2304   /* the longest frame body that is read; the shortest has 6 */
 #define SAE_HEADER_LEN 32
-#define SAE_RECORD_LEN 864
 
-#define SAE_MAX_SLOTS 64 /* records of a table; the least is 1 */
-#define SAE_MAX_GROUPS 2 /* groups of a list; the least is 1 */
+/* The two forms of a table, each named by the octets of a record. sae_initialize makes SAE_WIDE, which has room for group 21. A table of
+ * SAE_NARROW, as earlier versions made it, is served as before. Which form a table has is told by SAE_HEADER_RECORD_SIZE alone: a
+ * table of 4,352 octets may have five slots of SAE_NARROW or four of SAE_WIDE. A table with another record size is of no form, refusal 2.
+ * `form` is SAE_NARROW, SAE_WIDE or what that field says, in all that follows. */
+#define SAE_NARROW 864
+#define SAE_WIDE 1080
+
+#define SAE_COMMIT_LEN(form) ((form) == SAE_NARROW ? 144 : 198) /* a stored commit: scalar, element, zeros behind a shorter one */
+#define SAE_MAX_SLOTS(form) ((form) == SAE_NARROW ? 64 : 60)    /* records of a table; the least is 1 */
+#define SAE_MAX_GROUPS(form) ((form) == SAE_NARROW ? 2 : 3)     /* groups of a list; the least is 1 */
 
 /* The length of a table with so many slots, and of the fresh commits for so many groups. */
-#define SAE_TABLE_LEN(slots) (SAE_HEADER_LEN + (size_t)SAE_RECORD_LEN * (slots))
-#define SAE_FRESH_LEN(groups) ((size_t)SAE_COMMIT_LEN * (groups))
+#define SAE_TABLE_LEN(form, slots) (SAE_HEADER_LEN + (size_t)(form) * (slots))
+#define SAE_FRESH_LEN(form, groups) ((size_t)SAE_COMMIT_LEN(form) * (groups))
 
-/* Groups: 19 has a scalar of 32 octets and an element of 64, 20 of 48 and 96. */
+/* Groups: 19 has a scalar of 32 octets and an element of 64, 20 of 48 and 96, 21 of 66 and 132. SAE_NARROW has no room for 21: a printer
+ * with such a table, or one that does not list 21, answers it as any group that it does not list. */
 #define SAE_GROUP_19 19
 #define SAE_GROUP_20 20
+#define SAE_GROUP_21 21
 
 /* Frames. */
 #define SAE_COMMIT 1                /* sequence */
@@ -87,9 +96,9 @@ enum sae_refusal {
     SAE_REFUSED_BUFFER = 11    /* the frame is longer than the out buffer */
 };
 
-/* Settings, 16 octets. Octets 1, 6-7 and 10-15 are 0. */
-#define SAE_SETTINGS_COUNT 0     /* 1 octet: number of groups, 1 or 2 */
-#define SAE_SETTINGS_GROUPS 2    /* 2 octets each: the most preferred group, 19 or 20, then the other one, or 0 if there is none */
+/* Settings, 16 octets. Octets 1 and 10-15 are 0. */
+#define SAE_SETTINGS_COUNT 0     /* 1 octet: number of groups, 1 to 3 */
+#define SAE_SETTINGS_GROUPS 2    /* 2 octets each, three of them: 19, 20 or 21, each once, the most preferred first; 0 past their number */
 #define SAE_SETTINGS_THRESHOLD 8 /* 2 octets, 0 to 64: with so many runs open a Commit of a peer without one needs the expected token */
 
 /* Factory settings: as an initializer of the 16 octets, and number by number. Period and Sync limit cannot be set. */
@@ -129,20 +138,21 @@ enum sae_refusal {
 #define SAE_PARTS_ELEMENTS_AT 8      /* 4 octets: 40, also if nothing follows */
 #define SAE_PARTS_ELEMENTS_LENGTH 12 /* 4 octets: 0 to 2,264 */
 
-/* Fresh commits, 144 octets for each listed group in the order of the list: scalar, element, zeros. Made by the chip and never used
- * before. If the answer names a group (SAE_ANSWER_FRESH), that one is used up and never offered again; the others may be. */
+/* Fresh commits, SAE_COMMIT_LEN(form) octets for each listed group in the order of the list: scalar, element, zeros. Made by the chip and
+ * never used before. If the answer names a group (SAE_ANSWER_FRESH), that one is used up and never offered again; the others may be. */
 
-/* Where things stand in the header. The host may look into the table between calls; only the engine writes it. Octets 10-15, 23 and
- * 30-31 are 0. */
-#define SAE_HEADER_SLOTS 0       /* 2 octets: records, free ones too */
-#define SAE_HEADER_USED 2        /* 2 octets: records in use */
-#define SAE_HEADER_OPEN 4        /* 2 octets: records with a run */
-#define SAE_HEADER_RECORD_SIZE 6 /* 2 octets: 864 */
-#define SAE_HEADER_FIRST 8       /* 2 octets: offset of the first record, 32 */
-#define SAE_HEADER_OWN 16        /* 6 octets: own address */
-#define SAE_HEADER_COUNT 22      /* 1 octet: number of groups */
-#define SAE_HEADER_GROUPS 24     /* 2 octets each, 0 past their number */
-#define SAE_HEADER_THRESHOLD 28  /* 2 octets */
+/* Where things stand in the header. The host may look into the table between calls; only the engine writes it. Octets 10-15 and 23 are
+ * 0. */
+#define SAE_HEADER_SLOTS 0        /* 2 octets: records, free ones too */
+#define SAE_HEADER_USED 2         /* 2 octets: records in use */
+#define SAE_HEADER_OPEN 4         /* 2 octets: records with a run */
+#define SAE_HEADER_RECORD_SIZE 6  /* 2 octets: the form, SAE_NARROW or SAE_WIDE */
+#define SAE_HEADER_FIRST 8        /* 2 octets: offset of the first record, 32 */
+#define SAE_HEADER_OWN 16         /* 6 octets: own address */
+#define SAE_HEADER_COUNT 22       /* 1 octet: number of groups */
+#define SAE_HEADER_GROUPS 24      /* 2 octets each: the first two groups, 0 past their number */
+#define SAE_HEADER_THRESHOLD 28   /* 2 octets */
+#define SAE_HEADER_THIRD_GROUP 30 /* 2 octets: the third group, 0 if there is none; always 0 in SAE_NARROW */
 
 /* The state of a run. */
 enum sae_run_state {
@@ -151,33 +161,36 @@ enum sae_run_state {
     SAE_RUN_CONFIRMED = 2
 };
 
-/* Where things stand in record i, which starts at SAE_RECORD_AT(i); sae_find says where an address's record starts. The host hands the
- * chip the pair of a run or a link from here. A free slot is all zeros. */
-#define SAE_RECORD_AT(i) (SAE_HEADER_LEN + (size_t)SAE_RECORD_LEN * (i))
-#define SAE_RECORD_IN_USE 0         /* 1 octet, 0 or 1 */
-#define SAE_RECORD_ADDRESS 1        /* 6 octets */
-#define SAE_RECORD_STATE 7          /* 1 octet (enum sae_run_state) */
-#define SAE_RECORD_SYNC 8           /* 1 octet: repeats of the run since it began or, once its pair is formed, since then */
-#define SAE_RECORD_REJECTED 9       /* 1 octet: bit i is set if the peer refused the i-th listed group, from 0 */
-#define SAE_RECORD_SC 10            /* 2 octets: the counter of the run's last Confirm */
-#define SAE_RECORD_GROUP 12         /* 2 octets: the run's group */
-#define SAE_RECORD_TOKEN_LENGTH 14  /* 2 octets: of the token that its Commits carry */
-#define SAE_RECORD_T0 16            /* 4 octets: the run's deadline */
-#define SAE_RECORD_OWN 20           /* a commit: the run's own */
-#define SAE_RECORD_PEER 164         /* a commit: the run's other one, from Confirmed on */
-#define SAE_RECORD_TOKEN 308        /* 256 octets, zero past the token */
-#define SAE_RECORD_LINK 564         /* 1 octet: finished link, 0 or 1 */
-#define SAE_RECORD_SUPERSEDED 565   /* 1 octet: the link's mark, 1 if a pair was formed since */
-#define SAE_RECORD_LINK_SYNC 566    /* 1 octet */
-#define SAE_RECORD_LINK_GROUP 568   /* 2 octets */
-#define SAE_RECORD_RC 570           /* 2 octets: the counter last taken */
-#define SAE_RECORD_T1 572           /* 4 octets: the link's deadline */
-#define SAE_RECORD_LINK_OWN 576     /* a commit */
-#define SAE_RECORD_LINK_PEER 720    /* a commit */
+/* Where things stand in record i, which starts at SAE_RECORD_AT(form, i); sae_find says where an address's record starts. The host hands
+ * the chip the pair of a run or a link from here. A free slot is all zeros. Up to the run's own commit both forms are the same; a commit
+ * has SAE_COMMIT_LEN(form) octets, and what stands behind it moves up. */
+#define SAE_RECORD_AT(form, i) (SAE_HEADER_LEN + (size_t)(form) * (i))
+#define SAE_RECORD_IN_USE 0        /* 1 octet, 0 or 1 */
+#define SAE_RECORD_ADDRESS 1       /* 6 octets */
+#define SAE_RECORD_STATE 7         /* 1 octet (enum sae_run_state) */
+#define SAE_RECORD_SYNC 8          /* 1 octet: repeats of the run since it began or, once its pair is formed, since then */
+#define SAE_RECORD_REJECTED 9      /* 1 octet: bit i is set if the peer refused the i-th listed group, from 0 */
+#define SAE_RECORD_SC 10           /* 2 octets: the counter of the run's last Confirm */
+#define SAE_RECORD_GROUP 12        /* 2 octets: the run's group */
+#define SAE_RECORD_TOKEN_LENGTH 14 /* 2 octets: of the token that its Commits carry */
+#define SAE_RECORD_T0 16           /* 4 octets: the run's deadline */
+#define SAE_RECORD_OWN 20          /* a commit: the run's own */
 
-/* Sets up a table, and clears what it held.
+/* What stands behind it, with its offset in SAE_NARROW and in SAE_WIDE. */
+#define SAE_RECORD_PEER(form) (SAE_RECORD_OWN + SAE_COMMIT_LEN(form)) /* 164, 218: a commit, the run's other one, from Confirmed on */
+#define SAE_RECORD_TOKEN(form) (SAE_RECORD_PEER(form) + SAE_COMMIT_LEN(form)) /* 308, 416: 256 octets, zero past the token */
+#define SAE_RECORD_LINK(form) (SAE_RECORD_TOKEN(form) + SAE_TOKEN_LEN) /* 564, 672: 1 octet, finished link, 0 or 1 */
+#define SAE_RECORD_SUPERSEDED(form) (SAE_RECORD_LINK(form) + 1) /* 565, 673: 1 octet, the link's mark, 1 if a pair was formed since */
+#define SAE_RECORD_LINK_SYNC(form) (SAE_RECORD_LINK(form) + 2) /* 566, 674: 1 octet */
+#define SAE_RECORD_LINK_GROUP(form) (SAE_RECORD_LINK(form) + 4) /* 568, 676: 2 octets */
+#define SAE_RECORD_RC(form) (SAE_RECORD_LINK(form) + 6) /* 570, 678: 2 octets, the counter last taken */
+#define SAE_RECORD_T1(form) (SAE_RECORD_LINK(form) + 8) /* 572, 680: 4 octets, the link's deadline */
+#define SAE_RECORD_LINK_OWN(form) (SAE_RECORD_LINK(form) + 12) /* 576, 684: a commit */
+#define SAE_RECORD_LINK_PEER(form) (SAE_RECORD_LINK_OWN(form) + SAE_COMMIT_LEN(form)) /* 720, 882: a commit */
+
+/* Sets up a table of the form SAE_WIDE, and clears what it held.
  *
- * table, table_len   SAE_TABLE_LEN(slots) octets of any content, slots from 1 to SAE_MAX_SLOTS
+ * table, table_len   SAE_TABLE_LEN(SAE_WIDE, slots) octets of any content, slots from 1 to SAE_MAX_SLOTS(SAE_WIDE)
  * own                the own address: an individual one, not zero
  * settings           as above
  * answer             no event, no frames, the own address
@@ -187,10 +200,10 @@ uint32_t sae_initialize(uint8_t *table, size_t table_len, const uint8_t own[6], 
 
 /* Starts a run with a peer: its Commit in the most preferred group is to be sent. A finished link with it stays.
  *
- * table, table_len   a table that sae_initialize set up
+ * table, table_len   a table that sae_initialize set up, or one of the form SAE_NARROW
  * address            the peer
  * now                the clock's reading in milliseconds; it may wrap
- * fresh, fresh_len   fresh commits, SAE_FRESH_LEN(groups) octets
+ * fresh, fresh_len   fresh commits, SAE_FRESH_LEN(form, groups) octets: the table's form, and as many groups as it lists
  * answer             one Commit to send; its group is the group used
  *
  * Refuses 2, 3, 4, 8 and 9. */

@@ -2,10 +2,10 @@
 //! nothing else.
 
 use crate::air::{End, Turn, TOKEN};
+use crate::forms::ALL;
 use crate::history::Link;
 use crate::mesh::written;
 use crate::plain::frame::{self, Body, Parts, COMMIT, TOKEN_REQUIRED};
-use crate::plain::table::Settings;
 use crate::together::Fault;
 
 pub struct AccessPoint;
@@ -16,7 +16,7 @@ impl End for AccessPoint {
     }
 
     fn receive(&mut self, _: u64, frame: &[u8]) -> Result<Turn, Fault> {
-        Ok(match frame::read(frame, &Settings::factory().groups) {
+        Ok(match frame::read(frame, &ALL) {
             Some(Body::Commit { group, .. }) => {
                 let request = Parts { sequence: COMMIT, status: TOKEN_REQUIRED, group, counter: 0, token: &TOKEN, rest: &[] };
                 Turn { event: 0, frames: vec![written(&request)] }

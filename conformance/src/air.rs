@@ -1,13 +1,14 @@
 //! Two ends and an air in which every frame takes its time and none is lost. Nothing is at random.
 
 use crate::access_point::AccessPoint;
+use crate::forms::{groups_of, records, Layout, Seen, ALL, WIDE};
 use crate::history::{Answer, Link, Pair};
 use crate::interface::{Call, Counts, Lent};
 use crate::mesh::Mesh;
 use crate::plain::frame::{self, Body, COMMIT as COMMIT_FRAME, CONFIRM, SUCCESS, TOKEN_REQUIRED, VALUE};
 use crate::plain::octets::Address;
-use crate::plain::peer::{at, Peer, State, RECORD};
-use crate::plain::table::{self, Settings, COMMIT, HEADER};
+use crate::plain::peer::State;
+use crate::plain::table::{Groups, Settings};
 use crate::together::{Fault, Known, Together};
 
 /// The addresses of A and B.
@@ -38,6 +39,9 @@ pub struct Plan {
     /// When it starts, if it does and has not heard from the other by then.
     pub starts: [Option<u64>; 2],
     pub makers: [Maker; 2],
+    /// The groups that this end lists and the form of its table, if it is ours.
+    pub groups: [Groups; 2],
+    pub forms: [&'static Layout; 2],
     /// Whether this end, if it is ours, asks for a token from the first run on.
     pub asks_token: [bool; 2],
     /// Whether a host of ours leaves out a 76 with the token that its run has already.
@@ -54,6 +58,8 @@ impl Plan {
             chip: [0; 2],
             starts: [Some(0), None],
             makers: [Maker::Ours; 2],
+            groups: [Settings::factory().groups; 2],
+            forms: [&WIDE; 2],
             asks_token: [false; 2],
             filters_requests: false,
             same_password: true,
@@ -220,7 +226,7 @@ pub const EVENTS: [&str; 4] = ["none", "accepted", "run given up", "link ended"]
 
 /// A frame in words.
 fn words(octets: &[u8]) -> String {
-    match frame::read(octets, &Settings::factory().groups) {
+    match frame::read(octets, &ALL) {
         Some(Body::Commit { group, .. }) => format!("Commit, group {group}"),
         Some(Body::Confirm { counter, .. }) => format!("Confirm, counter {counter}"),
         Some(Body::TokenRequest { group, .. }) => format!("76, group {group}"),
@@ -246,13 +252,22 @@ pub mod chip {
         }
     }
 
-    /// Fresh commits for the groups 19 and 20, unlike all of another address or another number.
-    pub fn fresh(address: &Address, number: u32) -> [u8; 2 * COMMIT] {
+    /// A commit in a group, unlike all of another address, another number or another group.
+    pub fn commit(address: &Address, number: u32, group: u16) -> Vec<u8> {
         let seed = address.iter().chain(&number.to_le_bytes()).fold(0, |sum, &octet| mix(sum, octet));
-        let mut fresh = [0; 2 * COMMIT];
-        fill(&mut fresh[..frame::commit_len(19)], seed);
-        fill(&mut fresh[COMMIT..], mix(seed, 20));
-        fresh
+        let mut commit = vec![0; frame::commit_len(group)];
+        fill(&mut commit, if group == 19 { seed } else { mix(seed, group as u8) });
+        commit
+    }
+
+    /// Fresh commits for these groups, in a form's parts.
+    pub fn fresh(form: &Layout, groups: &Groups, address: &Address, number: u32) -> Vec<u8> {
+        let part = |&group: &u16| {
+            let mut part = commit(address, number, group);
+            part.resize(form.commit, 0);
+            part
+        };
+        groups.listed().iter().flat_map(part).collect()
     }
 
     /// The value of a Confirm that the owner of this pair makes, with this counter.
@@ -283,30 +298,43 @@ struct Ours {
 }
 
 impl Ours {
-    /// A table of one slot, set up with the factory settings, or with these and threshold 0: then it asks for a token.
+    /// A table of one slot with the factory settings but for the groups and, if it asks for a token, threshold 0. A wide one is set up,
+    /// a narrow one handed over as set up made it before.
     fn new(who: usize, password: u8, plan: &Plan) -> Ours {
-        let (own, other) = (ADDRESSES[who], ADDRESSES[1 - who]);
-        let together = Together::new(&[0; HEADER + RECORD], Known::Nothing);
+        let (own, other, form) = (ADDRESSES[who], ADDRESSES[1 - who], plan.forms[who]);
+        let threshold = if plan.asks_token[who] { 0 } else { Settings::THRESHOLD };
+        let settings = Settings { groups: plan.groups[who], threshold };
+        let together = Together::new(&form.fresh_table(1, &own, &settings), Known::Sound);
         let filters_requests = plan.filters_requests;
         let mut ours = Ours { own, other, password, filters_requests, together, counts: Counts::default(), used: 0 };
-        let factory = Settings::factory();
-        let settings = Settings { threshold: if plan.asks_token[who] { 0 } else { factory.threshold }, ..factory }.octets();
-        assert!(ours.call(&Call::Initialize { own, settings }).is_ok(), "the settings are right");
+        if *form == WIDE {
+            ours.together.set(&vec![0; WIDE.length(1)], Known::Nothing);
+            assert!(ours.call(&Call::Initialize { own, settings: settings.octets() }).is_ok(), "the settings are right");
+        }
         ours
     }
 
-    fn peer(&self) -> Option<Peer<&[u8; RECORD]>> {
-        table::slots(self.together.table()).iter().map(Peer).find(|peer| peer.in_use())
+    fn groups(&self) -> Groups {
+        groups_of(self.together.table())
+    }
+
+    /// Fresh commits that no call has used.
+    fn fresh(&self) -> Vec<u8> {
+        let form = Layout::of(self.together.table()).expect("a table of its form");
+        chip::fresh(form, &self.groups(), &self.own, self.used)
+    }
+
+    fn peer(&self) -> Option<Seen<'_>> {
+        records(self.together.table()).find(Seen::in_use)
     }
 
     /// The pair that a Confirm meets or is made over: the run's in Confirmed, the link's without a run.
     fn pair(&self) -> Option<Pair> {
         let peer = self.peer()?;
-        let commit = |at: usize| *peer.0[at..].first_chunk().expect("a commit");
         match peer.state() {
             State::Committed => None,
-            State::Confirmed => Some(Pair { group: peer.group(), own: commit(at::OWN), peer: commit(at::PEER) }),
-            State::Nothing => Some(Pair { group: peer.link_group(), own: commit(at::LINK_OWN), peer: commit(at::LINK_PEER) }),
+            State::Confirmed => Some(Pair { group: peer.group(), own: peer.own(), peer: peer.peer() }),
+            State::Nothing => Some(Pair { group: peer.link_group(), own: peer.link_own(), peer: peer.link_peer() }),
         }
     }
 
@@ -316,7 +344,7 @@ impl Ours {
         self.used += u32::from(answer.fresh_group != 0);
         let mut frames = Vec::new();
         for sent in &answer.frames {
-            let (address, sequence, room) = (answer.address, sent.sequence, 408);
+            let (address, sequence, room) = (answer.address, sent.sequence, 462);
             let write = match (sent.sequence, sent.status) {
                 (COMMIT_FRAME, SUCCESS) => Call::WriteRecord { address, sequence, value: Vec::new(), room },
                 (CONFIRM, _) => {
@@ -347,12 +375,12 @@ pub const TOKEN: [u8; 32] = [7; 32];
 
 impl End for Ours {
     fn start(&mut self, now: u64) -> Result<Turn, Fault> {
-        let fresh = chip::fresh(&self.own, self.used).to_vec();
+        let fresh = self.fresh();
         self.call(&Call::Initiate { address: self.other, now: now as u32, fresh })
     }
 
     fn receive(&mut self, now: u64, frame: &[u8]) -> Result<Turn, Fault> {
-        let body = frame::read(frame, &Settings::factory().groups);
+        let body = frame::read(frame, &self.groups());
         if let (true, Some(Body::TokenRequest { token, .. }), Some(peer)) = (self.filters_requests, &body, self.peer()) {
             if peer.token() == *token {
                 return Ok(Turn::default());
@@ -369,7 +397,7 @@ impl End for Ours {
             address: self.other,
             now: now as u32,
             frame: frame.to_vec(),
-            fresh: chip::fresh(&self.own, self.used).to_vec(),
+            fresh: self.fresh(),
             expected: TOKEN.to_vec(),
             verified: u8::from(verified),
         })
@@ -382,7 +410,7 @@ impl End for Ours {
     /// All but a Confirm in Committed or with neither run nor link, and a Commit in Confirmed: the engine looks at no verdict on those.
     fn asks_chip(&self, frame: &[u8]) -> bool {
         let confirmed = self.peer().is_some_and(|peer| peer.state() == State::Confirmed);
-        match frame::read(frame, &Settings::factory().groups) {
+        match frame::read(frame, &self.groups()) {
             Some(Body::Commit { .. }) => !confirmed,
             Some(Body::Confirm { .. }) => self.pair().is_some(),
             _ => false,
@@ -395,7 +423,7 @@ impl End for Ours {
 
     fn link(&self) -> Option<Link> {
         let peer = self.peer().filter(|peer| peer.has_link())?;
-        let pair = Pair { group: peer.link_group(), own: *peer.link_own(), peer: *peer.link_peer() };
+        let pair = Pair { group: peer.link_group(), own: peer.link_own(), peer: peer.link_peer() };
         Some(Link { pair, marked: peer.superseded() })
     }
 }

@@ -3,16 +3,14 @@
 use std::hint::black_box;
 use std::time::{Duration, Instant};
 
+use crate::forms::{records, Layout, Seen, ALL, NARROW, WIDE};
 use crate::interface::{engines, Call, Engine, Lent};
-use crate::plain::frame::TOKEN_REQUIRED;
+use crate::plain::frame::{commit_len, TOKEN_REQUIRED};
 use crate::plain::octets::{put16, put32, Address};
-use crate::plain::peer::{at, RECORD};
-use crate::plain::table::{Groups, Settings, COMMIT, HEADER};
-use crate::plain::Plain;
+use crate::plain::peer::at;
+use crate::plain::table::{Groups, Settings};
 use crate::random::Random;
 
-/// The numbers of slots that are measured.
-const SLOTS: [usize; 3] = [1, 8, 64];
 /// How often each engine is timed in each row.
 const SAMPLES: usize = 401;
 /// How long one sample lasts, at least.
@@ -20,11 +18,18 @@ const SAMPLE: Duration = Duration::from_micros(40);
 
 const OWN: Address = [2, 0, 0, 0, 0, 0x80];
 const NOW: u32 = 1_000_000;
-const GROUPS: Groups = Groups { count: 2, list: [19, 20] };
+
+/// The form of a row's table and the groups that it lists.
+#[derive(Clone, Copy)]
+struct Kind {
+    form: &'static Layout,
+    groups: Groups,
+}
 
 /// A row: a call on a table, and the number that it returns.
 struct Row {
-    name: &'static str,
+    name: String,
+    slots: usize,
     table: Vec<u8>,
     call: Call,
     number: u32,
@@ -38,16 +43,26 @@ pub fn run() -> Result<bool, String> {
         [_, _] => println!("| Call | Slots | Plain Rust | Engine | Ratio |\n|---|---:|---:|---:|---:|"),
         _ => println!("The archive is not linked.\n\n| Call | Slots | Plain Rust |\n|---|---:|---:|"),
     }
-    let rows = SLOTS.map(rows);
-    for row in (0..rows[0].len()).flat_map(|name| rows.iter().map(move |rows| &rows[name])) {
-        measure(&engines, row)?;
+    let two = Settings::factory().groups;
+    for form in [&NARROW, &WIDE] {
+        measure_all(&engines, form, |slots| rows(Kind { form, groups: two }, slots))?;
     }
+    measure_all(&engines, &WIDE, |slots| rows_of_three(Kind { form: &WIDE, groups: ALL }, slots))?;
     Ok(true)
+}
+
+/// Prints these rows, each for a table of one slot, of eight and of as many as its form has.
+fn measure_all(engines: &[&dyn Engine], form: &Layout, rows: impl Fn(usize) -> Vec<Row>) -> Result<(), String> {
+    let rows = [1, 8, form.slots].map(rows);
+    for row in (0..rows[0].len()).flat_map(|name| rows.iter().map(move |rows| &rows[name])) {
+        measure(engines, row)?;
+    }
+    Ok(())
 }
 
 /// Prints one row.
 fn measure(engines: &[&dyn Engine], row: &Row) -> Result<(), String> {
-    let slots = (row.table.len() - HEADER) / RECORD;
+    let slots = row.slots;
     let mut samples: Vec<Vec<f64>> = vec![Vec::new(); engines.len()];
     let mut batch = Batch::new(engines, row)?;
     for round in 0..SAMPLES {
@@ -119,33 +134,29 @@ impl Batch {
 /// How many elements stand behind the Confirm of one row.
 const ELEMENTS: usize = 64;
 
-fn rows(slots: usize) -> Vec<Row> {
+/// The rows of both forms. The narrow form's have the names that they had when it was the only one.
+fn rows(kind: Kind, slots: usize) -> Vec<Row> {
     let mut random = Random::new(7);
-    let fresh = fresh(&mut random);
-    let full = table(&mut random, slots, slots);
-    let one_free = table(&mut random, slots, slots - 1);
-    let mut empty = vec![0; HEADER + RECORD * slots];
-    Plain.initialize(&mut empty, &OWN, &Settings::factory().octets(), &mut [0; 28]);
+    let fresh = fresh(&mut random, kind);
+    let full = table(&mut random, kind, slots, slots);
+    let one_free = table(&mut random, kind, slots, slots - 1);
+    let empty = kind.form.fresh_table(slots, &OWN, &Settings::factory());
     let (last, stranger) = (address(slots - 1), address(99));
     let mut confirmed = full.clone();
-    record(&mut random, &mut confirmed, slots - 1, Kind::Confirmed);
+    record(&mut random, kind, &mut confirmed, slots - 1, Holds::Confirmed);
     let mut late = full.clone();
-    record(&mut random, &mut late, slots - 1, Kind::Committed);
-    put32(&mut late, HEADER + RECORD * (slots - 1) + at::T0, NOW - 1);
-    let commit = frame(1, 19, &random.octets(96));
+    record(&mut random, kind, &mut late, slots - 1, Holds::Committed);
+    put32(&mut late, kind.form.length(slots - 1) + at::T0, NOW - 1);
+    let commit = frame(1, 19, &random.octets(commit_len(19)));
     let confirm = frame(2, 1, &random.octets(32));
     let followed = [confirm.clone(), [221, 15].into_iter().chain([7; 15]).collect::<Vec<u8>>().repeat(ELEMENTS)].concat();
-    let mut request = frame(1, group(slots - 1), &[9; 32]);
+    let mut request = frame(1, group(kind, slots - 1), &[9; 32]);
     request[4] = TOKEN_REQUIRED as u8;
-    let receive = |address: Address, frame: &[u8], verified: u8| Call::Receive {
-        address,
-        now: NOW,
-        frame: frame.to_vec(),
-        fresh: fresh.clone(),
-        expected: vec![5; 32],
-        verified,
+    let receive = |address, frame: &[u8], verified| receive(address, frame, &fresh, verified);
+    let row = |name: &str, table: &[u8], call, number| {
+        let name = if *kind.form == NARROW { name.into() } else { format!("{name}, wide") };
+        Row { name, slots, table: table.to_vec(), call, number }
     };
-    let row = |name, table: &[u8], call, number| Row { name, table: table.to_vec(), call, number };
     vec![
         row("sound: kill of the own address, refused 3", &full, Call::Kill { address: OWN }, 3),
         row("the same, every slot free", &empty, Call::Kill { address: OWN }, 3),
@@ -165,19 +176,40 @@ fn rows(slots: usize) -> Vec<Row> {
     ]
 }
 
+/// A Commit in each longer group, in tables that list three.
+fn rows_of_three(kind: Kind, slots: usize) -> Vec<Row> {
+    let mut random = Random::new(7);
+    let fresh = fresh(&mut random, kind);
+    let table = table(&mut random, kind, slots, slots - 1);
+    let mut row = |group| {
+        let commit = frame(1, group, &random.octets(commit_len(group)));
+        let name = format!("receive: a Commit in group {group}, pair formed, wide");
+        Row { name, slots, table: table.clone(), call: receive(address(99), &commit, &fresh, 1), number: 0 }
+    };
+    vec![row(20), row(21)]
+}
+
+fn receive(address: Address, frame: &[u8], fresh: &[u8], verified: u8) -> Call {
+    Call::Receive { address, now: NOW, frame: frame.to_vec(), fresh: fresh.to_vec(), expected: vec![5; 32], verified }
+}
+
 fn address(slot: usize) -> Address {
     [2, 0, 0, 0, 1, slot as u8]
 }
 
 /// The group of what a slot has.
-fn group(slot: usize) -> u16 {
-    GROUPS.list[slot / 4 % 2]
+fn group(kind: Kind, slot: usize) -> u16 {
+    let listed = kind.groups.listed();
+    listed[slot / 4 % listed.len()]
 }
 
-fn fresh(random: &mut Random) -> Vec<u8> {
-    let mut fresh = random.octets(2 * COMMIT);
-    fresh[96..COMMIT].fill(0);
-    fresh
+fn fresh(random: &mut Random, kind: Kind) -> Vec<u8> {
+    let part = |&group: &u16| {
+        let mut part = random.octets(commit_len(group));
+        part.resize(kind.form.commit, 0);
+        part
+    };
+    kind.groups.listed().iter().flat_map(part).collect()
 }
 
 fn frame(sequence: u16, field: u16, rest: &[u8]) -> Vec<u8> {
@@ -187,7 +219,8 @@ fn frame(sequence: u16, field: u16, rest: &[u8]) -> Vec<u8> {
     frame
 }
 
-enum Kind {
+/// What a record holds.
+enum Holds {
     Committed,
     Confirmed,
     Linked,
@@ -195,45 +228,43 @@ enum Kind {
 }
 
 /// A table with so many records, of all kinds in turn, in its last slots; threshold 64, nothing due.
-fn table(random: &mut Random, slots: usize, in_use: usize) -> Vec<u8> {
-    let mut table = vec![0; HEADER + RECORD * slots];
-    Plain.initialize(&mut table, &OWN, &Settings { groups: GROUPS, threshold: 64 }.octets(), &mut [0; 28]);
+fn table(random: &mut Random, kind: Kind, slots: usize, in_use: usize) -> Vec<u8> {
+    let mut table = kind.form.fresh_table(slots, &OWN, &Settings { groups: kind.groups, threshold: 64 });
     for slot in slots - in_use..slots {
-        let kind = [Kind::Committed, Kind::Confirmed, Kind::Linked, Kind::Both].into_iter().nth(slot % 4).expect("four kinds");
-        record(random, &mut table, slot, kind);
+        let holds = [Holds::Committed, Holds::Confirmed, Holds::Linked, Holds::Both].into_iter().nth(slot % 4).expect("four kinds");
+        record(random, kind, &mut table, slot, holds);
     }
     table
 }
 
-fn record(random: &mut Random, table: &mut [u8], slot: usize, kind: Kind) {
-    let octets = &mut table[HEADER..].as_chunks_mut::<RECORD>().0[slot];
+fn record(random: &mut Random, kind: Kind, table: &mut [u8], slot: usize, holds: Holds) {
+    let (form, group) = (kind.form, group(kind, slot));
+    let octets = &mut table[form.length(slot)..form.length(slot + 1)];
     octets.fill(0);
     octets[at::IN_USE] = 1;
     octets[at::ADDRESS..at::STATE].copy_from_slice(&address(slot));
-    let group = group(slot);
-    let commit = if group == 19 { 96 } else { 144 };
-    if !matches!(kind, Kind::Linked) {
+    let mut commit = |octets: &mut [u8], at: usize| random.fill(&mut octets[at..][..commit_len(group)]);
+    if !matches!(holds, Holds::Linked) {
         octets[at::STATE] = 1;
         put16(octets, at::GROUP, group);
         put32(octets, at::T0, NOW + 500);
-        random.fill(&mut octets[at::OWN..at::OWN + commit]);
+        commit(octets, at::OWN);
     }
-    if matches!(kind, Kind::Confirmed | Kind::Both) {
+    if matches!(holds, Holds::Confirmed | Holds::Both) {
         octets[at::STATE] = 2;
         put16(octets, at::SC, 1);
-        random.fill(&mut octets[at::PEER..at::PEER + commit]);
+        commit(octets, form.peer);
     }
-    if matches!(kind, Kind::Linked | Kind::Both) {
-        octets[at::LINK] = 1;
-        put16(octets, at::LINK_GROUP, group);
-        put16(octets, at::RC, 1);
-        put32(octets, at::T1, NOW + 80_000_000);
-        random.fill(&mut octets[at::LINK_OWN..at::LINK_OWN + commit]);
-        random.fill(&mut octets[at::LINK_PEER..at::LINK_PEER + commit]);
+    if matches!(holds, Holds::Linked | Holds::Both) {
+        octets[form.link] = 1;
+        put16(octets, form.link_group, group);
+        put16(octets, form.rc, 1);
+        put32(octets, form.t1, NOW + 80_000_000);
+        commit(octets, form.link_own);
+        commit(octets, form.link_peer);
     }
-    let records = table[HEADER..].as_chunks::<RECORD>().0;
-    let in_use = records.iter().filter(|octets| octets[at::IN_USE] == 1).count();
-    let open = records.iter().filter(|octets| octets[at::STATE] != 0).count();
-    put16(table, 2, in_use as u16);
-    put16(table, 4, open as u16);
+    let count = |test: fn(&Seen) -> bool| records(table).filter(test).count() as u16;
+    let (in_use, open) = (count(|peer| peer.in_use()), count(|peer| peer.has_run()));
+    put16(table, 2, in_use);
+    put16(table, 4, open);
 }

@@ -2,7 +2,9 @@
 
 use crate::air::{play, Maker, Outcome, Plan, EVENTS, LAST, NAMES};
 use crate::differential::keep;
+use crate::forms::{ALL, NARROW, WIDE};
 use crate::interface::engines;
+use crate::plain::table::{Groups, Settings};
 use crate::together::Fault;
 use crate::trace::number;
 
@@ -44,6 +46,11 @@ fn plan(words: &[&str]) -> Result<Plan, String> {
             Some(("later", ms)) => later = number(ms)?,
             Some(("answer", ms)) => answer = Some(number(ms)?),
             Some(("asks", ms)) => asks = Some(number(ms)?),
+            Some(("a", list)) => plan.groups[0] = groups(list)?,
+            Some(("b", list)) => plan.groups[1] = groups(list)?,
+            Some(("form", "wide")) => plan.forms = [&WIDE; 2],
+            Some(("form", "narrow")) => plan.forms = [&NARROW; 2],
+            Some(("form", "mixed")) => plan.forms = [&NARROW, &WIDE],
             Some(("token", "a")) => plan.asks_token = [true, false],
             Some(("token", "b")) => plan.asks_token = [false, true],
             Some(("token", "both")) => plan.asks_token = [true; 2],
@@ -64,7 +71,20 @@ fn plan(words: &[&str]) -> Result<Plan, String> {
     if let Some(ms) = asks {
         (plan.makers, plan.chip[1]) = (WITH_ACCESS_POINT, ms);
     }
-    Ok(plan)
+    match (0..2).all(|who| plan.forms[who].lists().contains(&plan.groups[who])) {
+        true => Ok(plan),
+        false => Err("a list of groups that no table of its form can have".into()),
+    }
+}
+
+/// The groups that a word lists, with commas between them.
+fn groups(word: &str) -> Result<Groups, String> {
+    let mut groups = Groups { count: 0, list: [0; 3] };
+    for group in word.split(',') {
+        let place = groups.list.get_mut(usize::from(groups.count)).ok_or("more than three groups")?;
+        (*place, groups.count) = (number(group)?, groups.count + 1);
+    }
+    Ok(groups)
 }
 
 /// Prints a play and what it came to.
@@ -140,7 +160,7 @@ const WITH_MESH: [Maker; 2] = [Maker::Ours, Maker::Mesh];
 const WITH_ACCESS_POINT: [Maker; 2] = [Maker::Ours, Maker::AccessPoint];
 const BOTH: [Option<u64>; 2] = [Some(0); 2];
 
-const SERIES: [Series; 11] = [
+const SERIES: [Series; 13] = [
     Series { name: "one starts", over: "delay", plan: Plan::ours },
     Series { name: "both start", over: "delay", plan: |ms| Plan { starts: BOTH, ..Plan::ours(ms) } },
     Series {
@@ -164,7 +184,20 @@ const SERIES: [Series; 11] = [
     },
     Series { name: "one starts, other password", over: "delay", plan: |ms| Plan { same_password: false, ..Plan::ours(ms) } },
     Series { name: "both start, other password", over: "delay", plan: |ms| Plan { same_password: false, starts: BOTH, ..Plan::ours(ms) } },
+    Series {
+        name: "one starts in group 21, which the other lacks",
+        over: "delay",
+        plan: |ms| Plan { groups: [THREE, Settings::factory().groups], ..Plan::ours(ms) },
+    },
+    Series {
+        name: "both start, one in group 21 and one in 19",
+        over: "delay",
+        plan: |ms| Plan { groups: [THREE, ALL], starts: BOTH, ..Plan::ours(ms) },
+    },
 ];
+
+/// The three groups, the longest first.
+const THREE: Groups = Groups { count: 3, list: [21, 20, 19] };
 
 /// A is ours, B the model of a mesh peer that does what it does so long after a frame.
 fn with_mesh(starts: [Option<u64>; 2], answer: u64) -> Plan {

@@ -5,11 +5,11 @@ use std::fs;
 use std::path::Path;
 
 use crate::faults::{fault, scratch};
-use crate::inputs::{slots, Pool};
+use crate::forms::{FORMS, WIDE};
+use crate::inputs::{slots, Pool, SHARED};
 use crate::interface::{engines, Call, Counts};
 use crate::lists;
 use crate::plain::octets::put16;
-use crate::plain::peer::RECORD;
 use crate::plain::table::HEADER;
 use crate::random::Random;
 use crate::together::{Fault, Known, Together};
@@ -74,9 +74,9 @@ impl Trial {
 
     /// A table from set up, and a list of calls.
     fn after_set_up(&mut self) -> Result<(), Fault> {
-        let mut pool = Pool::new(&mut self.random);
-        let slots = slots(&mut self.random);
-        let mut together = Together::new(&vec![self.random.octet(); HEADER + RECORD * slots], Known::Nothing);
+        let mut pool = Pool::of(&mut self.random, &WIDE);
+        let slots = slots(&mut self.random, &WIDE);
+        let mut together = Together::new(&vec![self.random.octet(); WIDE.length(slots)], Known::Nothing);
         let damage = std::mem::take(&mut pool.damage);
         let initialize = pool.initialize(&mut self.random);
         self.call(&mut together, &initialize)?;
@@ -91,7 +91,7 @@ impl Trial {
     /// A table of the form with anything in it, and some calls.
     fn on_sound(&mut self) -> Result<(), Fault> {
         let pool = Pool::new(&mut self.random);
-        let slots = slots(&mut self.random);
+        let slots = slots(&mut self.random, pool.form);
         let mut together = Together::new(&[], Known::Nothing);
         for _ in 0..4 {
             together.set(&pool.sound_table(&mut self.random, slots), Known::Sound);
@@ -106,7 +106,7 @@ impl Trial {
     /// A table of the form, with one fault after the other.
     fn on_faults(&mut self) -> Result<(), Fault> {
         let pool = Pool::new(&mut self.random);
-        let slots = slots(&mut self.random);
+        let slots = slots(&mut self.random, pool.form);
         let sound = pool.sound_table(&mut self.random, slots);
         let mut together = Together::new(&[], Known::Nothing);
         for _ in 0..self.random.within(5, 30) {
@@ -136,15 +136,15 @@ impl Trial {
         let pool = Pool::new(&mut self.random).with_damage(30);
         let length = match self.random.below(4) {
             0 => self.random.below(40),
-            1 => HEADER + RECORD * self.random.below(4),
+            1 => pool.form.length(self.random.below(6)),
             2 => self.random.below(3000),
-            _ => HEADER + RECORD + self.random.below(3) - 1,
+            _ => pool.form.length(1) + self.random.below(3) - 1,
         };
         let mut table = self.random.octets(length);
         if self.random.percent(50) && length >= HEADER {
             let sound = pool.sound_table(&mut self.random, 1);
             table[..HEADER].copy_from_slice(&sound[..HEADER]);
-            put16(&mut table, 0, (length / RECORD) as u16);
+            put16(&mut table, 0, (length / pool.form.record) as u16);
         }
         let mut together = Together::new(&table, Known::Nothing);
         for _ in 0..self.random.within(1, 4) {
@@ -159,8 +159,10 @@ impl Trial {
         let mut together = Together::new(&[], Known::Nothing);
         for _ in 0..self.random.within(1, 10) {
             let pool = Pool::new(&mut self.random).with_damage(50);
-            let right = HEADER + RECORD * slots(&mut self.random);
-            let length = *self.random.pick(&[right, right, right, right - 1, right + 1, 0, 31, HEADER, HEADER + 65 * RECORD]);
+            let [narrow, right] = FORMS.map(|form| form.length(slots(&mut self.random, form)));
+            let most = WIDE.length(WIDE.slots);
+            let wrong = [right - 1, right + 1, narrow, HEADER + SHARED, 0, 31, HEADER, most, most + WIDE.record];
+            let length = if self.random.percent(40) { right } else { *self.random.pick(&wrong) };
             together.set(&vec![self.random.octet(); length], Known::Nothing);
             let call = pool.initialize(&mut self.random);
             self.call(&mut together, &call)?;

@@ -1,65 +1,61 @@
 //! Faults: a table of the form with one thing wrong, or with octets changed anywhere.
 
-use crate::inputs::records;
+use crate::forms::{groups_of, records, Layout, NARROW};
 use crate::plain::frame::commit_len;
 use crate::plain::octets::{get16, put16, Address};
-use crate::plain::peer::{at, Peer, HIGHEST_SYNC, RECORD};
-use crate::plain::table::{Groups, COMMIT, HEADER, TOKEN};
+use crate::plain::peer::{at, HIGHEST_SYNC};
+use crate::plain::table::{Groups, HEADER, TOKEN};
 use crate::random::Random;
 
 /// Makes a table of the form unsound by one fault that is surely one. Answers what it is, or nothing if there is no place for it.
 pub fn fault(random: &mut Random, table: &mut Vec<u8>) -> Option<&'static str> {
+    let form = Layout::of(table)?;
     if random.percent(35) {
-        return header_fault(random, table);
+        return header_fault(random, table, form);
     }
     let slot = random.below(records(table).len());
-    let groups = Groups { count: table[22], list: [get16(table, 24), get16(table, 26)] };
+    let groups = groups_of(table);
     let own: Address = table[16..22].try_into().expect("six octets");
-    let others: Vec<Address> = records(table)
-        .iter()
-        .enumerate()
-        .filter(|(at, octets)| *at != slot && octets[at::IN_USE] == 1)
-        .map(|(_, octets)| *Peer(octets).address())
-        .collect();
-    let octets = &mut table[HEADER..].as_chunks_mut::<RECORD>().0[slot];
+    let others: Vec<Address> =
+        records(table).enumerate().filter(|(at, peer)| *at != slot && peer.in_use()).map(|(_, peer)| peer.address()).collect();
+    let octets = &mut table[form.length(slot)..form.length(slot + 1)];
     if octets[at::IN_USE] == 0 {
-        octets[random.below(RECORD)] = random.within(1, 255) as u8;
+        octets[random.below(form.record)] = random.within(1, 255) as u8;
         return Some("an octet of a free slot");
     }
     let nonzero = random.within(1, 255) as u8;
     let listed = |group: u16| groups.lists(group);
-    let unlisted = *[0, 18, 19, 20, 21, 275, 276].iter().filter(|&&group| !listed(group)).nth(random.below(4)).expect("there are four");
+    let unlisted = *[0, 18, 19, 20, 21, 22, 275, 277].iter().filter(|&&group| !listed(group)).nth(random.below(4)).expect("there are four");
     match random.below(4) {
         0 => address_fault(random, octets, own, &others),
         1 | 2 if octets[at::STATE] == 0 => {
-            octets[random.within(at::STATE + 1, at::LINK - 1)] = nonzero;
+            octets[random.within(at::STATE + 1, form.link - 1)] = nonzero;
             Some("an octet of no run")
         }
-        1 | 2 => run_fault(random, octets, &groups, unlisted, nonzero),
-        _ if octets[at::LINK] == 0 => {
-            octets[random.within(at::LINK + 1, RECORD - 1)] = nonzero;
+        1 | 2 => run_fault(random, octets, form, &groups, unlisted, nonzero),
+        _ if octets[form.link] == 0 => {
+            octets[random.within(form.link + 1, form.record - 1)] = nonzero;
             Some("an octet of no link")
         }
-        _ => link_fault(random, octets, unlisted, nonzero),
+        _ => link_fault(random, octets, form, unlisted, nonzero),
     }
 }
 
-fn header_fault(random: &mut Random, table: &mut Vec<u8>) -> Option<&'static str> {
+fn header_fault(random: &mut Random, table: &mut Vec<u8>, form: &Layout) -> Option<&'static str> {
     let other = |random: &mut Random, table: &mut [u8], place: usize| {
-        let new =
-            *random.pick(&[0, 1, 2, 31, 33, 64, 65, 863, 865, 1080, 65535, get16(table, place).wrapping_add(1), get16(table, place) ^ 256]);
-        let differs = new != get16(table, place);
+        let now = get16(table, place);
+        let new = *random.pick(&[0, 1, 2, 31, 33, 60, 61, 64, 65, 863, 865, 1079, 1081, 65535, now.wrapping_add(1), now ^ 256]);
         put16(table, place, new);
-        differs
+        new != now
     };
-    match random.below(13) {
+    match random.below(16) {
         0 => other(random, table, 0).then_some("slots"),
         1 => other(random, table, 2).then_some("count in use"),
         2 => other(random, table, 4).then_some("Open"),
         3 => other(random, table, 6).then_some("record size"),
         4 => other(random, table, 8).then_some("first record's offset"),
         5 => {
-            table[*random.pick(&[10, 11, 12, 13, 14, 15, 23, 30, 31])] = random.within(1, 255) as u8;
+            table[*random.pick(&[10, 11, 12, 13, 14, 15, 23])] = random.within(1, 255) as u8;
             Some("a zero octet of the header")
         }
         6 => {
@@ -71,32 +67,66 @@ fn header_fault(random: &mut Random, table: &mut Vec<u8>) -> Option<&'static str
             Some("own address, zero")
         }
         8 => {
-            table[22] = *random.pick(&[0, 3, 4, 255, 3 - table[22]]);
+            table[22] = *random.pick(&[0, 4, 255, table[22] + 1, table[22] - 1]);
             Some("group count")
         }
-        9 => {
-            put16(table, 24, *random.pick(&[0, 18, 21, 275, 276]));
-            Some("first group")
-        }
-        10 => {
-            let second = if table[22] == 1 { vec![19, 20, 21, 256] } else { vec![0, 18, 21, 275, get16(table, 24)] };
-            put16(table, 26, *random.pick(&second));
-            Some("second group")
-        }
+        9 | 10 => group_fault(random, table, form),
         11 => {
             put16(table, 28, *random.pick(&[65, 66, 128, 256, 320, 65535]));
             Some("threshold")
         }
+        12 => {
+            // The number of slots stays, and is not that of the other form, also where the length is one of its own.
+            put16(table, 6, form.other().record as u16);
+            Some("the other form's record size")
+        }
+        13 => {
+            table.resize(form.length(form.slots + 1), 0);
+            put16(table, 0, form.slots as u16 + 1);
+            Some("a slot too many")
+        }
         _ => {
-            let length = table.len();
-            let new = *random.pick(&[0, 1, 31, 32, 33, length - 1, length + 1, length - RECORD, length + RECORD, HEADER + 65 * RECORD]);
+            let (length, record, most) = (table.len(), form.record, form.length(form.slots + 1));
+            let new = *random.pick(&[0, 1, 31, 32, 33, length - 1, length + 1, length - record, length + record, most]);
             table.resize(new, 0);
             Some("length")
         }
     }
 }
 
-fn address_fault(random: &mut Random, octets: &mut [u8; RECORD], own: Address, others: &[Address]) -> Option<&'static str> {
+/// A list of groups that the form does not have.
+fn group_fault(random: &mut Random, table: &mut [u8], form: &Layout) -> Option<&'static str> {
+    let (first, second) = (get16(table, 24), get16(table, 26));
+    match (random.below(4), table[22]) {
+        (0, _) => {
+            put16(table, 24, *random.pick(&[0, 18, 22, 275, 277]));
+            Some("first group")
+        }
+        (1, count) => {
+            let wrong: &[u16] = if count == 1 { &[19, 20, 21, 256] } else { &[0, 18, 22, 275, first] };
+            put16(table, 26, *random.pick(wrong));
+            Some("second group")
+        }
+        (2, count) => {
+            let wrong: &[u16] = if count < 3 { &[19, 20, 21, 256] } else { &[0, 18, 22, 275, first, second] };
+            put16(table, 30, *random.pick(wrong));
+            Some("third group")
+        }
+        (_, count) if *form == NARROW => {
+            match count {
+                2 if random.percent(50) => {
+                    table[22] = 3;
+                    put16(table, 30, 21);
+                }
+                count => put16(table, if count == 1 { 24 } else { *random.pick(&[24, 26]) }, 21),
+            }
+            Some("group 21 in the narrow form")
+        }
+        _ => None,
+    }
+}
+
+fn address_fault(random: &mut Random, octets: &mut [u8], own: Address, others: &[Address]) -> Option<&'static str> {
     let place = at::ADDRESS..at::STATE;
     match random.below(5) {
         0 => {
@@ -126,7 +156,7 @@ fn address_fault(random: &mut Random, octets: &mut [u8; RECORD], own: Address, o
     }
 }
 
-fn run_fault(random: &mut Random, octets: &mut [u8; RECORD], groups: &Groups, unlisted: u16, nonzero: u8) -> Option<&'static str> {
+fn run_fault(random: &mut Random, octets: &mut [u8], form: &Layout, groups: &Groups, unlisted: u16, nonzero: u8) -> Option<&'static str> {
     let (committed, commit) = (octets[at::STATE] == 1, commit_len(get16(octets, at::GROUP)));
     let token = usize::from(get16(octets, at::TOKEN_LEN));
     match random.below(11) {
@@ -168,63 +198,78 @@ fn run_fault(random: &mut Random, octets: &mut [u8; RECORD], groups: &Groups, un
             Some("token length, above 256")
         }
         8 if token < TOKEN => {
-            octets[random.within(at::TOKEN + token, at::LINK - 1)] = nonzero;
+            octets[random.within(form.token + token, form.link - 1)] = nonzero;
             Some("past the token")
         }
-        9 if commit < COMMIT => {
-            octets[random.within(at::OWN + commit, at::PEER - 1)] = nonzero;
-            Some("past the own commit")
-        }
+        9 if commit < form.commit => past_commit(random, octets, form, at::OWN, commit, nonzero, "past the own commit"),
         10 if committed => {
-            octets[random.within(at::PEER, at::TOKEN - 1)] = nonzero;
+            octets[random.within(form.peer, form.token - 1)] = nonzero;
             Some("peer commit in Committed")
         }
-        10 if commit < COMMIT => {
-            octets[random.within(at::PEER + commit, at::TOKEN - 1)] = nonzero;
-            Some("past the peer commit")
-        }
+        10 if commit < form.commit => past_commit(random, octets, form, form.peer, commit, nonzero, "past the peer commit"),
         _ => None,
     }
 }
 
-fn link_fault(random: &mut Random, octets: &mut [u8; RECORD], unlisted: u16, nonzero: u8) -> Option<&'static str> {
-    let commit = commit_len(get16(octets, at::LINK_GROUP));
+fn link_fault(random: &mut Random, octets: &mut [u8], form: &Layout, unlisted: u16, nonzero: u8) -> Option<&'static str> {
+    let commit = commit_len(get16(octets, form.link_group));
     match random.below(7) {
         0 => {
-            octets[at::LINK] = random.within(2, 255) as u8;
+            octets[form.link] = random.within(2, 255) as u8;
             Some("link flag, above 1")
         }
         1 => {
-            octets[at::LINK] = 0;
+            octets[form.link] = 0;
             Some("link flag, cleared")
         }
         2 => {
-            octets[at::SUPERSEDED] = random.within(2, 255) as u8;
+            octets[form.superseded] = random.within(2, 255) as u8;
             Some("mark, above 1")
         }
         3 => {
-            octets[at::LINK_SYNC] = random.within(usize::from(HIGHEST_SYNC) + 1, 255) as u8;
+            octets[form.link_sync] = random.within(usize::from(HIGHEST_SYNC) + 1, 255) as u8;
             Some("link's Sync, above 6")
         }
         4 => {
-            octets[at::LINK_PAD] = nonzero;
-            Some("record octet 567")
+            octets[form.link_pad] = nonzero;
+            Some("the zero octet behind the link's Sync")
         }
         5 => {
-            put16(octets, at::LINK_GROUP, unlisted);
+            put16(octets, form.link_group, unlisted);
             Some("link's group")
         }
-        _ if commit < COMMIT => {
-            let place = *random.pick(&[at::LINK_OWN, at::LINK_PEER]);
-            octets[random.within(place + commit, place + COMMIT - 1)] = nonzero;
-            Some("past a link's commit")
+        _ if commit < form.commit => {
+            let place = *random.pick(&[form.link_own, form.link_peer]);
+            past_commit(random, octets, form, place, commit, nonzero, "past a link's commit")
         }
         _ => None,
     }
 }
 
-/// Changes octets anywhere: the table may be sound afterwards or not.
+/// An octet behind a shorter commit: where the narrow form has room for one too, or past that.
+fn past_commit(
+    random: &mut Random,
+    octets: &mut [u8],
+    form: &Layout,
+    place: usize,
+    commit: usize,
+    nonzero: u8,
+    what: &'static str,
+) -> Option<&'static str> {
+    let from = if form.commit > NARROW.commit && random.percent(50) { commit.max(NARROW.commit) } else { commit };
+    octets[random.within(place + from, place + form.commit - 1)] = nonzero;
+    Some(if from >= NARROW.commit { "past a commit, behind its octet 144" } else { what })
+}
+
+/// Changes octets anywhere, or the form that the header tells of a length that both have: the table may be sound afterwards or not.
 pub fn scratch(random: &mut Random, table: &mut [u8]) {
+    if let Some(other) = Layout::of(table).map(Layout::other).filter(|_| random.percent(20)) {
+        if let Some(slots) = other.slots_for(table.len()) {
+            put16(table, 0, slots as u16);
+            put16(table, 6, other.record as u16);
+            return;
+        }
+    }
     for _ in 0..random.within(1, 3) {
         if table.is_empty() {
             return;

@@ -2,16 +2,12 @@
 
 use std::collections::{BTreeMap, BTreeSet};
 
+use crate::forms::{filled, groups_of, records, Commit, Layout};
 use crate::interface::{Call, ANSWER};
 use crate::plain::frame::{self, Body};
 use crate::plain::octets::{get16, Address};
-use crate::plain::peer::Peer;
-use crate::plain::table::{slots, Groups, COMMIT};
 
-/// A commit as it is stored: scalar, element, zeros.
-pub type Commit = [u8; COMMIT];
-
-/// A pair: group, own commit, peer commit.
+/// A pair: group, own commit, peer commit. It is the same whatever the form of the table that it comes from.
 #[derive(Clone, Copy, Debug, PartialEq, Eq, PartialOrd, Ord)]
 pub struct Pair {
     pub group: u16,
@@ -111,8 +107,8 @@ pub struct History {
 const REPEATS: u32 = 6;
 
 impl History {
-    /// Takes in a call that was not refused. `groups` are the table's. Answers a breach of the bound of six.
-    pub fn take(&mut self, call: &Call, answer: &Answer, groups: &Groups) -> Result<(), String> {
+    /// Takes in a call that was not refused and the table that it left. Answers a breach of the bound of six.
+    pub fn take(&mut self, call: &Call, answer: &Answer, table: &[u8]) -> Result<(), String> {
         if answer.none_due {
             return Ok(());
         }
@@ -121,18 +117,19 @@ impl History {
             self.peers.values_mut().for_each(|peer| (peer.run, peer.link) = (None, None));
             return Ok(());
         }
+        let form = Layout::of(table).ok_or("a table of no form")?;
+        let groups = groups_of(table);
         let peer = self.peers.entry(answer.address).or_default();
         // "The commit used afresh is the stock's for the stock group in the answer, if that is not 0."
         let fresh = match call {
             Call::Initiate { fresh, .. } | Call::Receive { fresh, .. } if answer.fresh_group != 0 => {
-                let part = &fresh[COMMIT * groups.place(answer.fresh_group)..][..COMMIT];
-                Some((answer.fresh_group, part.try_into().expect("a commit")))
+                Some((answer.fresh_group, filled(form.fresh_part(&groups, fresh, answer.fresh_group))))
             }
             _ => None,
         };
         peer.last_fresh = fresh.or(peer.last_fresh);
         let received = match call {
-            Call::Receive { frame, .. } => frame::read(frame, groups),
+            Call::Receive { frame, .. } => frame::read(frame, &groups),
             _ => None,
         };
         // "A repeat is a call in a run that sends, uses nothing afresh, forms nothing": the reply to a 76 is one too.
@@ -155,10 +152,8 @@ impl History {
             _ => {}
         }
         if let (true, Some(Body::Commit { group, commit, .. })) = (forms, received) {
-            let mut stored = [0; COMMIT];
-            stored[..commit.len()].copy_from_slice(commit);
             let Some((_, own)) = peer.last_fresh else { return Err("a pair formed and no commit used afresh before".into()) };
-            let pair = Pair { group, own, peer: stored };
+            let pair = Pair { group, own, peer: filled(commit) };
             peer.last_pair = Some(pair);
             peer.formed.insert(pair);
             // "or with a pair formed without a run"
@@ -187,17 +182,17 @@ impl History {
     /// (a) "The table's link flag, mark, group and commits say just this", for every address; and with (d), Sync counts the
     /// repeats of a run in being, since it began or, once its pair stands, since then.
     pub fn agrees(&self, table: &[u8]) -> Result<(), String> {
-        for peer in slots(table).iter().map(Peer).filter(|peer| peer.has_run()) {
-            let run = self.peers.get(peer.address()).and_then(|peer| peer.run.as_ref());
+        for peer in records(table).filter(|peer| peer.has_run()) {
+            let run = self.peers.get(&peer.address()).and_then(|peer| peer.run.as_ref());
             let repeats = run.map(|run| run.repeats[usize::from(run.stands)]);
             if repeats != Some(u32::from(peer.sync())) {
                 return Err(format!("(d) Sync is {} with {:02x?}, and the repeats are {repeats:?}", peer.sync(), peer.address()));
             }
         }
         let mut linked = 0;
-        for peer in slots(table).iter().map(Peer).filter(|peer| peer.has_link()) {
-            let pair = Pair { group: peer.link_group(), own: *peer.link_own(), peer: *peer.link_peer() };
-            let told = self.peers.get(peer.address()).and_then(|peer| peer.link);
+        for peer in records(table).filter(|peer| peer.has_link()) {
+            let pair = Pair { group: peer.link_group(), own: peer.link_own(), peer: peer.link_peer() };
+            let told = self.peers.get(&peer.address()).and_then(|peer| peer.link);
             if told != Some(Link { pair, marked: peer.superseded() }) {
                 return Err(format!("(a) the table's link with {:02x?} is not what the answers said", peer.address()));
             }

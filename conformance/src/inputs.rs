@@ -1,29 +1,25 @@
-//! Inputs at random: tables of the form and with a fault, frames of every shape, calls with right and damaged arguments.
+//! Inputs at random: tables of either form, sound and with a fault, frames of every shape, calls with right and damaged arguments.
 //! What they are made from is drawn from a small pool, so that equal commits, known peers and near deadlines are common.
 
+use crate::forms::{records, Commit, Layout, Seen, FORMS};
 use crate::interface::Call;
+use crate::plain::form::{COMMIT, SLOTS};
 use crate::plain::frame::{
     commit_len, scalar_len, COMMIT as COMMIT_FRAME, CONFIRM, CONFIRM_LEN, GROUP_REFUSED, LONGEST, TOKEN_REQUIRED, VALUE,
 };
-use crate::plain::octets::{get16, get32, put16, put32, Address};
-use crate::plain::peer::{at, Peer, RECORD};
-use crate::plain::table::{slots_for, Groups, Settings, COMMIT, HEADER, HIGHEST_THRESHOLD, SLOTS, TOKEN};
+use crate::plain::octets::{put16, put32, Address};
+use crate::plain::peer::at;
+use crate::plain::table::{Groups, Settings, HEADER, HIGHEST_THRESHOLD, TOKEN};
 use crate::random::Random;
-
-/// Every list of groups.
-pub const LISTS: [Groups; 4] = [
-    Groups { count: 1, list: [19, 0] },
-    Groups { count: 1, list: [20, 0] },
-    Groups { count: 2, list: [19, 20] },
-    Groups { count: 2, list: [20, 19] },
-];
 
 /// What tables and calls are made from.
 pub struct Pool {
     pub own: Address,
+    /// The form of the tables that are made, and of the fresh commits.
+    pub form: &'static Layout,
     pub groups: Groups,
     pub addresses: Vec<Address>,
-    commits: Vec<[u8; COMMIT]>,
+    commits: Vec<Commit>,
     tokens: Vec<[u8; 32]>,
     pub time: u32,
     /// Of a hundred arguments, how many are damaged.
@@ -31,15 +27,27 @@ pub struct Pool {
 }
 
 impl Pool {
+    /// For a form at random.
     pub fn new(random: &mut Random) -> Pool {
+        let form = *random.pick(&FORMS);
+        Pool::of(random, form)
+    }
+
+    pub fn of(random: &mut Random, form: &'static Layout) -> Pool {
         let own = individual(random);
-        let mut commits: Vec<[u8; COMMIT]> = (0..3).map(|_| random.array()).collect();
-        // One with the scalar of another, one with its element, one of zeros.
+        let mut commits: Vec<Commit> = (0..3).map(|_| random.array()).collect();
+        // In each group one with the scalar of another, one with its element; one that differs at the end of a scalar or element; one of zeros.
+        for scalar in [19, 20, 21].map(scalar_len) {
+            let mut like = commits[0];
+            random.fill(&mut like[scalar..]);
+            commits.push(like);
+            let mut like = commits[0];
+            random.fill(&mut like[..scalar]);
+            commits.push(like);
+        }
         let mut like = commits[0];
-        random.fill(&mut like[scalar_len(19)..]);
-        commits.push(like);
-        let mut like = commits[0];
-        random.fill(&mut like[..scalar_len(19)]);
+        let group = *random.pick(&[19, 20, 21]);
+        like[*random.pick(&[scalar_len(group), commit_len(group)]) - 1] ^= 1;
         commits.push(like);
         commits.push([0; COMMIT]);
         let mut tokens: Vec<[u8; 32]> = (0..2).map(|_| random.array()).collect();
@@ -48,7 +56,8 @@ impl Pool {
         tokens.push(like);
         Pool {
             own,
-            groups: *random.pick(&LISTS),
+            form,
+            groups: *random.pick(form.lists()),
             addresses: addresses(random, own),
             commits,
             tokens,
@@ -65,10 +74,9 @@ impl Pool {
         random.pick(&self.commits)[..commit_len(group)].to_vec()
     }
 
-    fn stored(&self, random: &mut Random, group: u16) -> [u8; COMMIT] {
-        let mut stored = [0; COMMIT];
-        let commit = self.commit(random, group);
-        stored[..commit.len()].copy_from_slice(&commit);
+    fn stored(&self, random: &mut Random, group: u16) -> Vec<u8> {
+        let mut stored = self.commit(random, group);
+        stored.resize(self.form.commit, 0);
         stored
     }
 
@@ -95,7 +103,7 @@ impl Pool {
 
     fn deadline(&self, random: &mut Random, table: &[u8]) -> u32 {
         match some_record(random, table) {
-            Some(octets) => get32(octets, *random.pick(&[at::T0, at::T1])),
+            Some(peer) => *random.pick(&[peer.t0(), peer.t1()]),
             None => self.time,
         }
     }
@@ -113,7 +121,7 @@ impl Pool {
             return address;
         }
         match some_record(random, table) {
-            Some(octets) if random.percent(75) => *Peer(octets).address(),
+            Some(peer) if random.percent(75) => peer.address(),
             _ => *random.pick(&self.addresses),
         }
     }
@@ -121,11 +129,13 @@ impl Pool {
     fn fresh(&self, random: &mut Random) -> Vec<u8> {
         let mut fresh: Vec<u8> = self.groups.listed().iter().flat_map(|&group| self.stored(random, group)).collect();
         if self.damaged(random) {
-            match random.below(5) {
+            let parts = random.within(1, 3);
+            match random.below(6) {
                 0 => fresh.clear(),
                 1 => fresh.truncate(fresh.len() - 1),
                 2 => fresh.push(0),
-                3 => fresh.resize(*random.pick(&[COMMIT, 2 * COMMIT, 3 * COMMIT]), 0),
+                3 => fresh.resize(parts * self.form.commit, 0),
+                4 => fresh = other_parts(&fresh, self.form),
                 _ => {
                     let place = random.below(fresh.len());
                     fresh[place] ^= 1 << random.below(8);
@@ -170,8 +180,8 @@ impl Pool {
     /// A frame of any shape, or of none.
     pub fn frame(&self, random: &mut Random, table: &[u8]) -> Vec<u8> {
         let group = match random.below(20) {
-            0 => *random.pick(&[0, 18, 21, 65535, 19 + 256, 20 + 256, 19 * 256]),
-            1 => *random.pick(&[19, 20]),
+            0 => *random.pick(&[0, 18, 22, 65535, 19 + 256, 21 + 256, 19 * 256]),
+            1..=2 => *random.pick(&[19, 20, 21]),
             _ => self.listed(random),
         };
         let mut frame = match random.below(20) {
@@ -183,8 +193,8 @@ impl Pool {
             }
             15..=16 => front(COMMIT_FRAME, GROUP_REFUSED, group, Vec::new()),
             17 => {
-                let rest = random.below(200);
-                front(COMMIT_FRAME, 0, *random.pick(&[0, 18, 21, 275, 65535]), random.octets(rest))
+                let rest = random.below(500);
+                front(COMMIT_FRAME, 0, *random.pick(&[0, 18, 21, 22, 275, 65535]), random.octets(rest))
             }
             _ => {
                 let rest = random.below(60);
@@ -205,7 +215,7 @@ impl Pool {
     /// A counter near the Rc of a record, or at the edges.
     fn counter(&self, random: &mut Random, table: &[u8]) -> u16 {
         match some_record(random, table) {
-            Some(octets) if random.percent(60) => Peer(octets).rc().wrapping_add(*random.pick(&[0, 1, 2, 65535])),
+            Some(peer) if random.percent(60) => peer.rc().wrapping_add(*random.pick(&[0, 1, 2, 65535])),
             _ => *random.pick(&[0, 1, 2, 3, 255, 256, 65534, 65535]),
         }
     }
@@ -245,10 +255,10 @@ impl Pool {
             match random.below(7) {
                 0 => own = [0; 6],
                 1 => own[0] |= 1,
-                2 => settings[0] = *random.pick(&[0, 1, 2, 3, 255]),
-                3 => put16(&mut settings, *random.pick(&[2, 4]), *random.pick(&[0, 18, 19, 20, 21, 275])),
+                2 => settings[0] = *random.pick(&[0, 1, 2, 3, 4, 255]),
+                3 => put16(&mut settings, *random.pick(&[2, 4, 6]), *random.pick(&[0, 18, 19, 20, 21, 22, 277])),
                 4 => put16(&mut settings, 8, *random.pick(&[64, 65, 256, 320, 65535])),
-                5 => settings[*random.pick(&[1, 6, 7, 10, 11, 12, 13, 14, 15])] = random.octet(),
+                5 => settings[*random.pick(&[1, 10, 11, 12, 13, 14, 15])] = random.octet(),
                 _ => settings = random.array(),
             }
         }
@@ -269,7 +279,7 @@ impl Pool {
             match random.below(7) {
                 0 => sequence = *random.pick(&[0, 1, 2, 3, 257, 258]),
                 1 => status = *random.pick(&[0, 1, 52, 76, 77, 332, 65535]),
-                2 => group = *random.pick(&[0, 19, 20, 21, 275]),
+                2 => group = *random.pick(&[0, 19, 20, 21, 22, 277]),
                 3 => counter = *random.pick(&[0, 1, 256, 65535]),
                 4 => token = vec![9; *random.pick(&[0, 1, 32, 255, 256, 257, 300])],
                 5 => rest.push(1),
@@ -287,7 +297,7 @@ impl Pool {
         let value = if self.damaged(random) { *random.pick(&[0, 31, 33]) } else { VALUE };
         let address = self.address(random, table);
         let length = match record_of(table, &address) {
-            Some(octets) if sequence == 1 => 8 + usize::from(get16(octets, at::TOKEN_LEN)) + commit_len(Peer(octets).group()),
+            Some(peer) if sequence == 1 => 8 + peer.token_len() + commit_len(peer.group()),
             _ => 8 + VALUE,
         };
         Call::WriteRecord { address, sequence, value: random.octets(value), room: self.room(random, length) }
@@ -306,17 +316,10 @@ impl Pool {
 
     /// A table of the form, with anything in it that the form allows.
     pub fn sound_table(&self, random: &mut Random, slots: usize) -> Vec<u8> {
-        let mut table = vec![0; HEADER + RECORD * slots];
-        put16(&mut table, 0, slots as u16);
-        put16(&mut table, 6, RECORD as u16);
-        put16(&mut table, 8, HEADER as u16);
-        table[16..22].copy_from_slice(&self.own);
-        table[22] = self.groups.count;
-        put16(&mut table, 24, self.groups.list[0]);
-        put16(&mut table, 26, self.groups.list[1]);
+        let mut table = self.form.fresh_table(slots, &self.own, &Settings { groups: self.groups, threshold: 0 });
         let filled = *random.pick(&[0, 30, 60, 90, 100]);
         let mut addresses = self.addresses.clone();
-        for octets in table[HEADER..].as_chunks_mut::<RECORD>().0 {
+        for octets in table[HEADER..].chunks_exact_mut(self.form.record) {
             if random.percent(filled) && !addresses.is_empty() {
                 let address = addresses.swap_remove(random.below(addresses.len()));
                 self.sound_record(random, octets, &address);
@@ -331,53 +334,71 @@ impl Pool {
         table
     }
 
-    fn sound_record(&self, random: &mut Random, octets: &mut [u8; RECORD], address: &Address) {
+    fn sound_record(&self, random: &mut Random, octets: &mut [u8], address: &Address) {
         octets[at::IN_USE] = 1;
         octets[at::ADDRESS..at::STATE].copy_from_slice(address);
         let (state, link) = *random.pick(&[(0, true), (1, false), (2, false), (1, true), (2, true)]);
         if state != 0 {
-            let group = self.listed(random);
-            let sync = *random.pick(&[0, 1, 4, 5, 6]);
-            octets[at::STATE] = state;
-            octets[at::SYNC] = sync;
-            put16(octets, at::GROUP, group);
-            put32(octets, at::T0, self.time.wrapping_add(random.below(3000) as u32));
-            octets[at::OWN..at::PEER].copy_from_slice(&self.stored(random, group));
-            let token = self.token(random);
-            put16(octets, at::TOKEN_LEN, token.len() as u16);
-            octets[at::TOKEN..at::TOKEN + token.len()].copy_from_slice(&token);
-            if state == 1 {
-                let others = ((1 << self.groups.count) - 1) & !(1 << self.groups.place(group));
-                octets[at::REJECTED] = random.octet() & others;
-            } else {
-                put16(octets, at::SC, u16::from(sync) + 1);
-                octets[at::PEER..at::TOKEN].copy_from_slice(&self.stored(random, group));
-            }
+            self.sound_run(random, octets, state);
         }
         if link {
-            let group = self.listed(random);
-            octets[at::LINK] = 1;
-            octets[at::SUPERSEDED] = random.below(2) as u8;
-            octets[at::LINK_SYNC] = *random.pick(&[0, 1, 4, 5, 6]);
-            put16(octets, at::LINK_GROUP, group);
-            put16(octets, at::RC, *random.pick(&[0, 1, 2, 255, 256, 65534, 65535]));
-            let t1 = self.time.wrapping_add(random.below(3000) as u32).wrapping_add(*random.pick(&[0, 86_400_000]));
-            put32(octets, at::T1, t1);
-            octets[at::LINK_OWN..at::LINK_PEER].copy_from_slice(&self.stored(random, group));
-            octets[at::LINK_PEER..].copy_from_slice(&self.stored(random, group));
+            self.sound_link(random, octets);
         }
+    }
+
+    fn sound_run(&self, random: &mut Random, octets: &mut [u8], state: u8) {
+        let (form, group) = (self.form, self.listed(random));
+        let sync = *random.pick(&[0, 1, 4, 5, 6]);
+        octets[at::STATE] = state;
+        octets[at::SYNC] = sync;
+        put16(octets, at::GROUP, group);
+        put32(octets, at::T0, self.time.wrapping_add(random.below(3000) as u32));
+        octets[at::OWN..form.peer].copy_from_slice(&self.stored(random, group));
+        let token = self.token(random);
+        put16(octets, at::TOKEN_LEN, token.len() as u16);
+        octets[form.token..][..token.len()].copy_from_slice(&token);
+        if state == 1 {
+            let others = ((1 << self.groups.count) - 1) & !(1 << self.groups.place(group));
+            octets[at::REJECTED] = random.octet() & others;
+        } else {
+            put16(octets, at::SC, u16::from(sync) + 1);
+            octets[form.peer..form.token].copy_from_slice(&self.stored(random, group));
+        }
+    }
+
+    fn sound_link(&self, random: &mut Random, octets: &mut [u8]) {
+        let (form, group) = (self.form, self.listed(random));
+        octets[form.link] = 1;
+        octets[form.superseded] = random.below(2) as u8;
+        octets[form.link_sync] = *random.pick(&[0, 1, 4, 5, 6]);
+        put16(octets, form.link_group, group);
+        put16(octets, form.rc, *random.pick(&[0, 1, 2, 255, 256, 65534, 65535]));
+        let t1 = self.time.wrapping_add(random.below(3000) as u32).wrapping_add(*random.pick(&[0, 86_400_000]));
+        put32(octets, form.t1, t1);
+        octets[form.link_own..form.link_peer].copy_from_slice(&self.stored(random, group));
+        octets[form.link_peer..].copy_from_slice(&self.stored(random, group));
     }
 }
 
+/// Octets of the records in the shortest tables whose length both forms have: 5 slots of 864 octets, 4 of 1,080.
+pub const SHARED: usize = 4320;
+
 /// A number of slots: mostly few.
-pub fn slots(random: &mut Random) -> usize {
+pub fn slots(random: &mut Random, form: &Layout) -> usize {
     match random.below(40) {
         0..=15 => 1,
-        16..=29 => random.within(2, 4),
+        16..=25 => random.within(2, 4),
+        26..=29 => SHARED / form.record,
         30..=37 => random.within(5, 12),
-        38 => random.within(13, SLOTS),
-        _ => SLOTS,
+        38 => random.within(13, form.slots),
+        _ => form.slots,
     }
+}
+
+/// Fresh commits of this form in parts as the other form has them.
+fn other_parts(fresh: &[u8], form: &Layout) -> Vec<u8> {
+    let cut = |part: &[u8]| part.iter().copied().chain([0; COMMIT]).take(form.other().commit).collect::<Vec<u8>>();
+    fresh.chunks(form.commit).flat_map(cut).collect()
 }
 
 fn individual(random: &mut Random) -> Address {
@@ -439,7 +460,10 @@ fn damage_frame(random: &mut Random, frame: &mut Vec<u8>) {
         1 => frame.truncate(frame.len() - 1),
         2 => frame.push(random.octet()),
         3 => frame.resize(random.within(0, 500), 3),
-        4 => frame.resize(*random.pick(&[103, 104, 360, 361, 151, 152, 408, 409, 39, 40, 41, 42, 43, 264, 265, 2304, 2305, 3000]), 3),
+        4 => frame.resize(
+            *random.pick(&[103, 104, 360, 361, 151, 152, 408, 409, 205, 206, 462, 463, 39, 40, 41, 42, 43, 264, 265, 2304, 2305, 3000]),
+            3,
+        ),
         5 => frame[0] = *random.pick(&[0, 2, 4, 255]),
         6 => frame[1] = 1,
         7 => put16(frame, 2, *random.pick(&[0, 3, 257, 258, 512])),
@@ -450,27 +474,19 @@ fn damage_frame(random: &mut Random, frame: &mut Vec<u8>) {
     }
 }
 
-/// The slots of a table, none if its length is wrong.
-pub fn records(table: &[u8]) -> &[[u8; RECORD]] {
-    match slots_for(table.len()) {
-        Some(_) => table[HEADER..].as_chunks().0,
-        None => &[],
+fn some_record<'a>(random: &mut Random, table: &'a [u8]) -> Option<Seen<'a>> {
+    match records(table).len() {
+        0 => None,
+        slots => records(table).nth(random.below(slots)).filter(Seen::in_use),
     }
 }
 
-fn some_record<'a>(random: &mut Random, table: &'a [u8]) -> Option<&'a [u8; RECORD]> {
-    match records(table) {
-        [] => None,
-        records => Some(random.pick(records)).filter(|octets| Peer(*octets).in_use()),
-    }
-}
-
-fn record_of<'a>(table: &'a [u8], address: &Address) -> Option<&'a [u8; RECORD]> {
-    records(table).iter().find(|octets| Peer(*octets).in_use() && Peer(*octets).address() == address)
+fn record_of<'a>(table: &'a [u8], address: &Address) -> Option<Seen<'a>> {
+    records(table).find(|peer| peer.in_use() && peer.address() == *address)
 }
 
 /// The records in use, and those with a run.
 fn counts(table: &[u8]) -> (u16, u16) {
-    let count = |test: fn(&Peer<&[u8; RECORD]>) -> bool| records(table).iter().filter(|octets| test(&Peer(*octets))).count() as u16;
+    let count = |test: fn(&Seen) -> bool| records(table).filter(test).count() as u16;
     (count(|peer| peer.in_use()), count(|peer| peer.has_run()))
 }

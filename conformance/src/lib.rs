@@ -10,6 +10,7 @@ pub mod benchmark;
 pub mod delay;
 pub mod differential;
 pub mod faults;
+pub mod forms;
 pub mod history;
 pub mod inputs;
 pub mod interface;

@@ -1,17 +1,19 @@
 //! Long lists of calls at two printers, with an air that loses, repeats and reorders frames, and demand 3's checks on them.
 //!
+//! A list begins with a fresh table at each printer, of either form in any mix; a further set up makes a wide one.
+//!
 //! A list is honest if it keeps demand 3's premises: no commit is used twice, from the other printer comes only what it sent to
 //! this one, and a Confirm from it that meets a pair gets verdict 1 only if the other made it over that same pair. Then (b) and
 //! (c) are checked; (a) and (d) are checked on every list.
 
+use crate::forms::{groups_of, records, Layout, Seen, ALL, FORMS, LISTS, NARROW, WIDE};
 use crate::history::{Answer, History, Pair, Sent};
-use crate::inputs::{slots, Pool, LISTS};
+use crate::inputs::{slots, Pool};
 use crate::interface::{engines, Call, Counts, Lent};
 use crate::plain::frame::{self, commit_len, Body, COMMIT as COMMIT_FRAME, CONFIRM, SUCCESS, TOKEN_REQUIRED, VALUE};
-use crate::plain::octets::{get16, get32, Address};
-use crate::plain::peer::{at, Peer, RECORD};
+use crate::plain::octets::{get16, Address};
 use crate::plain::rules::LINK_COUNTER;
-use crate::plain::table::{self, Groups, Settings, COMMIT, HEADER};
+use crate::plain::table::{Groups, Settings};
 use crate::random::Random;
 use crate::together::{Fault, Known, Together};
 use crate::trace::{call_line, expected_lines, hex, shorten, table_lines};
@@ -30,6 +32,10 @@ pub struct Tally {
     pub abandoned: u64,
     pub ended: u64,
     pub set_ups: u64,
+    /// Lists that began with two narrow tables, with one of each form, and with two wide ones.
+    pub begun: [u64; 3],
+    /// Runs accepted in the groups 19, 20 and 21.
+    pub accepted_in: [u64; 3],
     /// Times that both links with each other became finished and clear.
     pub agreed: u64,
     /// Times that two finished links with each other came to differ, at least one of them marked.
@@ -49,6 +55,9 @@ impl Tally {
             "    {} pairs formed, {} runs accepted, {} given up, {} links ended",
             self.pairs, self.accepted, self.abandoned, self.ended
         );
+        let ([narrow, mixed, wide], [in_19, in_20, in_21]) = (self.begun, self.accepted_in);
+        println!("    begun with two narrow tables {narrow} times, with one of each form {mixed}, with two wide ones {wide}");
+        println!("    links accepted in group 19: {in_19}, 20: {in_20}, 21: {in_21}");
         println!("    (a) the table's links were what the answers said, after each call");
         println!(
             "    (b) both links clear {} times, always the same pair; {} times two links parted, at least one marked",
@@ -91,8 +100,11 @@ struct Printer {
 
 impl Printer {
     fn groups(&self) -> Groups {
-        let table = self.together.table();
-        Groups { count: table[22], list: [get16(table, 24), get16(table, 26)] }
+        groups_of(self.together.table())
+    }
+
+    fn form(&self) -> &'static Layout {
+        Layout::of(self.together.table()).expect("each call left a table of its form")
     }
 
     /// A buffer becomes the table.
@@ -152,7 +164,8 @@ struct World<'a> {
 pub fn play(random: &mut Random, honest: bool, calls: usize, counts: &mut Counts, tally: &mut Tally) -> Result<(), Fault> {
     let pool = Pool::new(random);
     let other = *random.pick(&pool.addresses);
-    let groups = *random.pick(&LISTS);
+    let forms = [0, 1].map(|_| *random.pick(&FORMS));
+    let groups = *random.pick(if forms.contains(&&NARROW) { NARROW.lists() } else { WIDE.lists() });
     let printers = [pool.own, other].map(|own| Printer {
         own,
         together: Together::new(&[], Known::Nothing),
@@ -167,11 +180,15 @@ pub fn play(random: &mut Random, honest: bool, calls: usize, counts: &mut Counts
     let loss = *random.pick(&[0, 5, 20, 50]);
     tally.lists += 1;
     tally.honest += u64::from(honest);
+    tally.begun[forms.iter().filter(|form| ***form == WIDE).count()] += 1;
     let mut world =
         World { random, honest, printers, pool, chip, loss, serial: 0, made: 0, together_before: (false, false), counts, tally };
-    for who in 0..2 {
-        let list = if world.random.percent(60) { groups } else { *world.random.pick(&LISTS) };
-        world.set_up(who, list)?;
+    for (who, form) in forms.into_iter().enumerate() {
+        let list = if world.random.percent(60) { groups } else { *world.random.pick(form.lists()) };
+        match *form == WIDE {
+            true => world.set_up(who, list)?,
+            false => world.hand_over(who, list),
+        }
     }
     for _ in 0..calls {
         world.turn()?;
@@ -200,12 +217,25 @@ impl World<'_> {
         }
     }
 
-    /// Set up with a buffer of its own: another number of slots, other groups and another threshold, the same own address.
+    /// A number of slots and settings with these groups.
+    fn chosen(&mut self, form: &Layout, groups: Groups) -> (usize, Settings) {
+        let slots = if self.random.percent(70) { self.random.within(1, 2) } else { slots(self.random, form).min(8) };
+        (slots, Settings { groups, threshold: *self.random.pick(&[5, 5, 5, 1, 0]) })
+    }
+
+    /// A fresh table of the narrow form, as set up made it before: a list may begin with one.
+    fn hand_over(&mut self, who: usize, groups: Groups) {
+        let (slots, settings) = self.chosen(&NARROW, groups);
+        let table = NARROW.fresh_table(slots, &self.printers[who].own, &settings);
+        self.printers[who].set(&table, Known::Sound);
+    }
+
+    /// Set up with a buffer of its own: another number of slots, other groups and another threshold, the same own address. What was
+    /// narrow is wide from then on.
     fn set_up(&mut self, who: usize, groups: Groups) -> Result<(), Fault> {
-        let slots = if self.random.percent(70) { self.random.within(1, 2) } else { slots(self.random).min(8) };
-        let buffer = vec![self.random.octet(); HEADER + RECORD * slots];
-        let threshold = *self.random.pick(&[5, 5, 5, 1, 0]);
-        let settings = Settings { groups, threshold }.octets();
+        let (slots, settings) = self.chosen(&WIDE, groups);
+        let buffer = vec![self.random.octet(); WIDE.length(slots)];
+        let settings = settings.octets();
         let old = self.printers[who].together.table().to_vec();
         let refuse = !old.is_empty() && self.random.percent(20);
         let own = if refuse { [0; 6] } else { self.printers[who].own };
@@ -345,7 +375,7 @@ impl World<'_> {
     fn clock(&mut self, who: usize) -> Result<(), Fault> {
         let now = self.printers[who].now;
         let table = self.printers[who].together.table();
-        let t0s = table::slots(table).iter().filter(|octets| Peer(*octets).has_run()).map(|octets| get32(octets, at::T0));
+        let t0s = records(table).filter(Seen::has_run).map(|peer| peer.t0());
         let next = t0s.min_by_key(|deadline| deadline.wrapping_sub(now)).unwrap_or(now);
         self.printers[who].now = match self.random.below(100) {
             0 => self.random.number32(),
@@ -365,14 +395,13 @@ impl World<'_> {
     /// Fresh commits that no call has used yet; in a list without premises now and then used ones.
     fn fresh(&mut self, who: usize) -> Vec<u8> {
         if let Some(unused) = self.printers[who].unused.take() {
-            let same_list = unused.len() == COMMIT * usize::from(self.printers[who].groups().count);
-            if same_list && self.random.percent(if self.honest { 10 } else { 50 }) && self.right(who, &unused) {
+            if self.random.percent(if self.honest { 10 } else { 50 }) && self.right(who, &unused) {
                 return unused;
             }
         }
-        let groups = self.printers[who].groups();
-        let mut fresh = vec![0; COMMIT * usize::from(groups.count)];
-        for (place, &group) in fresh.chunks_exact_mut(COMMIT).zip(groups.listed()) {
+        let (form, groups) = (self.printers[who].form(), self.printers[who].groups());
+        let mut fresh = vec![0; form.commit * usize::from(groups.count)];
+        for (place, &group) in fresh.chunks_exact_mut(form.commit).zip(groups.listed()) {
             self.random.fill(&mut place[..commit_len(group)]);
             self.serial += 1;
             place[..8].copy_from_slice(&self.serial.to_le_bytes());
@@ -381,7 +410,7 @@ impl World<'_> {
     }
 
     fn right(&self, who: usize, fresh: &[u8]) -> bool {
-        self.printers[who].groups().fresh_right(fresh)
+        self.printers[who].form().fresh_right(&self.printers[who].groups(), fresh)
     }
 
     /// Makes a call and keeps it for a trace.
@@ -410,16 +439,20 @@ impl World<'_> {
             return Ok(());
         }
         let answer = Answer::read(&lent.answer);
-        let groups = self.printers[who].groups();
         let before = self.printers[who].history.peers.get(&answer.address).and_then(|peer| peer.last_pair);
-        self.printers[who].history.take(&call, &answer, &groups).map_err(|what| self.breach(&call, what))?;
+        let Printer { history, together, .. } = &mut self.printers[who];
+        history.take(&call, &answer, together.table()).map_err(|what| self.breach(&call, what))?;
         let after = self.printers[who].history.peers.get(&answer.address);
         self.tally.pairs += u64::from(after.and_then(|peer| peer.last_pair) != before);
         if let Some(run) = after.and_then(|peer| peer.run) {
             self.tally.repeats = [0, 1].map(|place| self.tally.repeats[place].max(run.repeats[place]));
         }
         match answer.event {
-            1 => self.tally.accepted += 1,
+            1 => {
+                self.tally.accepted += 1;
+                let group = after.and_then(|peer| peer.link).map_or(19, |link| link.pair.group);
+                self.tally.accepted_in[ALL.place(group)] += 1;
+            }
             2 => self.tally.abandoned += 1,
             3 => self.tally.ended += 1,
             _ => {}
@@ -460,8 +493,7 @@ impl World<'_> {
             return Err(self.breach(call, format!("the writer refused {number} a frame of the answer: {sent:?}")));
         }
         let octets = lent.out[..lent.written as usize].to_vec();
-        let groups = Groups { count: 2, list: [19, 20] };
-        if !says(frame::read(&octets, &groups), sent) {
+        if !says(frame::read(&octets, &ALL), sent) {
             return Err(self.breach(call, format!("what was written is not the frame of the answer: {sent:?}")));
         }
         self.tally.frames += 1;

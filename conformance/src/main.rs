@@ -7,7 +7,8 @@ use conformance::{agreement, benchmark, delay, differential, replay};
 const USAGE: &str = "usage: conformance replay [TRACE…]
        conformance differential [CALLS [SEED]]
        conformance agreement [CALLS [SEED]]
-       conformance delay [there=MS] [back=MS] [starts=a|b|both] [later=MS] [chip=MS] [answer=MS] [password=same|other]
+       conformance delay [there=MS] [back=MS] [starts=a|b|both] [later=MS] [chip=MS] [answer=MS] [asks=MS] [token=a|b|both]
+                         [requests=all|new] [password=same|other] [a=GROUPS] [b=GROUPS] [form=wide|narrow|mixed]
        conformance delay sweep [MOST]
        conformance benchmark";
 

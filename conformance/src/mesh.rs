@@ -6,11 +6,13 @@
 //! What it does not: tokens, a choice of groups, rejections, starting again by itself, and its own queue of frames.
 
 use crate::air::{chip, End, Turn};
-use crate::history::{Commit, Link, Pair};
+use crate::forms::{filled, Commit};
+use crate::history::{Link, Pair};
+use crate::plain::form::COMMIT;
 use crate::plain::frame::{self, Body, Parts, CONFIRM, SUCCESS};
 use crate::plain::octets::Address;
 use crate::plain::rules::LINK_COUNTER;
-use crate::plain::table::{Groups, COMMIT};
+use crate::plain::table::Groups;
 use crate::together::Fault;
 
 /// Milliseconds until it sends again.
@@ -52,7 +54,7 @@ impl Mesh {
     }
 
     fn renew(&mut self) {
-        self.own = *chip::fresh(&self.address, self.commits_made).first_chunk().expect("a commit");
+        self.own = filled(&chip::commit(&self.address, self.commits_made, GROUP));
         self.commits_made += 1;
     }
 
@@ -95,8 +97,7 @@ impl Mesh {
         if fresh {
             self.renew();
         }
-        self.peer = [0; COMMIT];
-        self.peer[..commit.len()].copy_from_slice(commit);
+        self.peer = filled(commit);
         self.state = State::Confirmed;
         self.wait(now);
         let mut frames = if fresh { vec![self.commit()] } else { Vec::new() };
@@ -132,7 +133,7 @@ impl Mesh {
 
 /// The body that is made of these parts.
 pub fn written(parts: &Parts) -> Vec<u8> {
-    let mut out = [0; 408];
+    let mut out = [0; 462];
     let length = parts.write(&mut out).expect("room for a frame");
     out[..length].to_vec()
 }
@@ -146,7 +147,7 @@ impl End for Mesh {
     }
 
     fn receive(&mut self, now: u64, frame: &[u8]) -> Result<Turn, Fault> {
-        Ok(match frame::read(frame, &Groups { count: 1, list: [GROUP, 0] }) {
+        Ok(match frame::read(frame, &Groups { count: 1, list: [GROUP, 0, 0] }) {
             Some(Body::Commit { commit, .. }) => self.on_commit(now, commit),
             Some(Body::Confirm { counter, .. }) => self.on_confirm(now, counter, &frame[frame::FRONT..frame::CONFIRM_LEN]),
             _ => Turn::default(),

@@ -1,7 +1,8 @@
 //! What differs between two outcomes of one call, in words.
 
+use crate::forms::Layout;
 use crate::interface::Lent;
-use crate::plain::{peer::RECORD, table::HEADER};
+use crate::plain::table::HEADER;
 use crate::trace::hex;
 
 /// A number returned, what was lent, and the table.
@@ -36,14 +37,15 @@ fn octets(what: &str, got: &[u8], wanted: &[u8]) -> Option<String> {
     }
     let at = got.iter().zip(wanted).position(|(a, b)| a != b)?;
     let differing = got.iter().zip(wanted).filter(|(a, b)| a != b).count();
-    let place = if what == "table" { table_place(at) } else { String::new() };
+    let place = if what == "table" { table_place(wanted, at) } else { String::new() };
     let show = |octets: &[u8]| hex(&octets[at..octets.len().min(at + 16)]);
     Some(format!("  {what}: {differing} octets differ, the first at {at}{place}: got {}, wanted {}", show(got), show(wanted)))
 }
 
-fn table_place(at: usize) -> String {
-    match at.checked_sub(HEADER) {
-        None => " (header)".into(),
-        Some(at) => format!(" (slot {}, record octet {})", at / RECORD, at % RECORD),
+fn table_place(table: &[u8], at: usize) -> String {
+    match (at.checked_sub(HEADER), Layout::of(table)) {
+        (None, _) => " (header)".into(),
+        (Some(at), Some(form)) => format!(" ({} form, slot {}, record octet {})", form.name, at / form.record, at % form.record),
+        (Some(_), None) => " (of no form)".into(),
     }
 }

@@ -1,10 +1,9 @@
 //! The engines side by side: each has a table of its own, makes every call, and is compared.
 
+use crate::forms::records;
 use crate::history::Answer;
 use crate::interface::{engines, Call, Counts, Engine, Lent};
 use crate::plain::frame::CONFIRM_LEN;
-use crate::plain::peer::Peer;
-use crate::plain::table::slots;
 use crate::report::{difference, Outcome};
 use crate::trace::{call_line, expected_lines, shorten, table_lines};
 
@@ -51,9 +50,9 @@ pub enum Known {
 /// "A deadline then moves only when a frame is sent, or a run or link starts or ends": a run starts with a frame sent, and a link
 /// as its run ends. A slot that breaks it, in words.
 fn moved_deadline(before: &[u8], after: &[u8], answer: &Answer) -> Option<String> {
-    let records = slots(before).iter().map(Peer).zip(slots(after).iter().map(Peer));
-    for (slot, (old, new)) in records.enumerate().filter(|(_, (old, new))| (old.t0(), old.t1()) != (new.t0(), new.t1())) {
-        let sent = !answer.frames.is_empty() && *new.address() == answer.address;
+    let slots = records(before).zip(records(after));
+    for (slot, (old, new)) in slots.enumerate().filter(|(_, (old, new))| (old.t0(), old.t1()) != (new.t0(), new.t1())) {
+        let sent = !answer.frames.is_empty() && new.address() == answer.address;
         let ended = (old.has_run() && !new.has_run()) || (old.has_link() && !new.has_link());
         if !sent && !ended {
             return Some(format!("  a deadline in slot {slot} moved, and nothing was sent to its peer, began or ended"));

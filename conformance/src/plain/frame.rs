@@ -8,6 +8,7 @@ pub const fn scalar_len(group: u16) -> usize {
     match group {
         19 => 32,
         20 => 48,
+        21 => 66,
         _ => 0,
     }
 }

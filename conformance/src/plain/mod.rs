@@ -2,6 +2,7 @@
 //! It works on the lent octets where they stand.
 
 pub mod engine;
+pub mod form;
 pub mod frame;
 pub mod octets;
 pub mod peer;
@@ -10,8 +11,20 @@ pub mod table;
 
 use crate::interface::{Engine, ANSWER, PARTS, SETTINGS};
 use engine::{Answer, Refusal};
+use form::{NARROW, WIDE};
 use frame::{Body, Parts, COMMIT, CONFIRM, CONFIRM_LEN, FRONT, GROUP_REFUSED, SUCCESS, TOKEN_REQUIRED};
 use octets::{put16, put32, Address};
+
+/// Makes a call in the form of its table, "told by its record size": 2 if no form has that size.
+macro_rules! in_form {
+    ($table:expr, $call:ident($($argument:expr),*)) => {
+        match table::record_size($table) {
+            Some(NARROW) => engine::$call::<NARROW>($table, $($argument),*),
+            Some(WIDE) => engine::$call::<WIDE>($table, $($argument),*),
+            _ => Err(Refusal::Table),
+        }
+    };
+}
 
 /// The functions of the C interface on slices.
 pub struct Plain;
@@ -26,11 +39,11 @@ impl Engine for Plain {
     }
 
     fn initiate(&self, table: &mut [u8], address: &Address, now: u32, fresh: &[u8], answer: &mut [u8; ANSWER]) -> u32 {
-        tell(engine::initiate(table, address, now, fresh), answer)
+        tell(in_form!(table, initiate(address, now, fresh)), answer)
     }
 
     fn kill(&self, table: &mut [u8], address: &Address, answer: &mut [u8; ANSWER]) -> u32 {
-        tell(engine::kill(table, address), answer)
+        tell(in_form!(table, kill(address)), answer)
     }
 
     fn receive(
@@ -44,11 +57,11 @@ impl Engine for Plain {
         verified: u8,
         answer: &mut [u8; ANSWER],
     ) -> u32 {
-        tell(engine::receive(table, address, now, frame, fresh, expected, verified), answer)
+        tell(in_form!(table, receive(address, now, frame, fresh, expected, verified)), answer)
     }
 
     fn expire(&self, table: &mut [u8], now: u32, answer: &mut [u8; ANSWER]) -> u32 {
-        tell(engine::expire(table, now), answer)
+        tell(in_form!(table, expire(now)), answer)
     }
 
     fn write_parts(
@@ -64,15 +77,15 @@ impl Engine for Plain {
         written: &mut u32,
     ) -> u32 {
         let parts = Parts { sequence, status, group, counter, token, rest };
-        tell_number(engine::write_parts(table, &parts, out), written)
+        tell_number(in_form!(table, write_parts(&parts, out)), written)
     }
 
     fn write_record(&self, table: &[u8], address: &Address, sequence: u16, value: &[u8], out: &mut [u8], written: &mut u32) -> u32 {
-        tell_number(engine::write_record(table, address, sequence, value, out), written)
+        tell_number(in_form!(table, write_record(address, sequence, value, out)), written)
     }
 
     fn read(&self, table: &[u8], frame: &[u8], parts: &mut [u8; PARTS]) -> u32 {
-        match engine::read(table, frame) {
+        match in_form!(table, read(frame)) {
             Ok(body) => {
                 *parts = parts_of(&body);
                 0
@@ -82,11 +95,11 @@ impl Engine for Plain {
     }
 
     fn next_deadline(&self, table: &[u8], now: u32, milliseconds: &mut u32) -> u32 {
-        tell_number(engine::next_deadline(table, now), milliseconds)
+        tell_number(in_form!(table, next_deadline(now)), milliseconds)
     }
 
     fn find(&self, table: &[u8], address: &Address, offset: &mut u32) -> u32 {
-        tell_number(engine::find(table, address), offset)
+        tell_number(in_form!(table, find(address)), offset)
     }
 }
 

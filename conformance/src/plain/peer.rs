@@ -2,16 +2,13 @@
 
 use core::ops::Deref;
 
+use super::form::{Form, NARROW, WIDE};
 use super::frame::{commit_len, scalar_len};
 use super::octets::{all_zero, get16, get32, put16, put32, Address};
-use super::table::{Groups, Settings, COMMIT, TOKEN};
+use super::table::{Groups, Settings, TOKEN};
 
-/// Octets of a record.
-pub const RECORD: usize = at::LINK_PEER + COMMIT;
-
-/// Where the fields of a record stand.
+/// Where the fields of a record stand, up to its first commit: the same in both forms.
 pub mod at {
-    use super::{COMMIT, TOKEN as TOKEN_OCTETS};
     pub const IN_USE: usize = 0;
     pub const ADDRESS: usize = 1;
     pub const STATE: usize = 7;
@@ -22,18 +19,27 @@ pub mod at {
     pub const TOKEN_LEN: usize = 14;
     pub const T0: usize = 16;
     pub const OWN: usize = 20;
-    pub const PEER: usize = OWN + COMMIT;
-    pub const TOKEN: usize = PEER + COMMIT;
-    pub const LINK: usize = TOKEN + TOKEN_OCTETS;
-    pub const SUPERSEDED: usize = LINK + 1;
-    pub const LINK_SYNC: usize = LINK + 2;
-    pub const LINK_PAD: usize = LINK + 3;
-    pub const LINK_GROUP: usize = LINK + 4;
-    pub const RC: usize = LINK + 6;
-    pub const T1: usize = LINK + 8;
-    pub const LINK_OWN: usize = LINK + 12;
-    pub const LINK_PEER: usize = LINK_OWN + COMMIT;
 }
+
+/// Where the others stand in a record of `R` octets: "fields after a commit move up in their order".
+pub struct At<const R: usize>;
+
+impl<const R: usize> At<R> {
+    pub const PEER: usize = at::OWN + Form::<R>::COMMIT;
+    pub const TOKEN: usize = Self::PEER + Form::<R>::COMMIT;
+    pub const LINK: usize = Self::TOKEN + TOKEN;
+    pub const SUPERSEDED: usize = Self::LINK + 1;
+    pub const LINK_SYNC: usize = Self::LINK + 2;
+    pub const LINK_PAD: usize = Self::LINK + 3;
+    pub const LINK_GROUP: usize = Self::LINK + 4;
+    pub const RC: usize = Self::LINK + 6;
+    pub const T1: usize = Self::LINK + 8;
+    pub const LINK_OWN: usize = Self::LINK + 12;
+    pub const LINK_PEER: usize = Self::LINK_OWN + Form::<R>::COMMIT;
+    pub const END: usize = Self::LINK_PEER + Form::<R>::COMMIT;
+}
+
+const _: () = assert!(At::<NARROW>::END == NARROW && At::<WIDE>::END == WIDE);
 
 /// The highest Sync that is stored.
 pub const HIGHEST_SYNC: u8 = Settings::SYNC_LIMIT + 1;
@@ -46,10 +52,10 @@ pub enum State {
     Confirmed,
 }
 
-/// A record, lent to be read (`&[u8; RECORD]`) or changed (`&mut [u8; RECORD]`).
+/// A record, lent to be read (`&[u8; R]`) or changed (`&mut [u8; R]`).
 pub struct Peer<T>(pub T);
 
-impl<T: Deref<Target = [u8; RECORD]>> Peer<T> {
+impl<const R: usize, T: Deref<Target = [u8; R]>> Peer<T> {
     pub fn in_use(&self) -> bool {
         self.0[at::IN_USE] != 0
     }
@@ -97,47 +103,43 @@ impl<T: Deref<Target = [u8; RECORD]>> Peer<T> {
 
     pub fn token(&self) -> &[u8] {
         let length = usize::from(get16(&*self.0, at::TOKEN_LEN));
-        &self.0[at::TOKEN..at::TOKEN + length]
+        &self.0[At::<R>::TOKEN..At::<R>::TOKEN + length]
     }
 
     pub fn has_link(&self) -> bool {
-        self.0[at::LINK] != 0
+        self.0[At::<R>::LINK] != 0
     }
 
     pub fn superseded(&self) -> bool {
-        self.0[at::SUPERSEDED] != 0
+        self.0[At::<R>::SUPERSEDED] != 0
     }
 
     pub fn link_sync(&self) -> u8 {
-        self.0[at::LINK_SYNC]
+        self.0[At::<R>::LINK_SYNC]
     }
 
     pub fn link_group(&self) -> u16 {
-        get16(&*self.0, at::LINK_GROUP)
+        get16(&*self.0, At::<R>::LINK_GROUP)
     }
 
     pub fn rc(&self) -> u16 {
-        get16(&*self.0, at::RC)
+        get16(&*self.0, At::<R>::RC)
     }
 
     pub fn t1(&self) -> u32 {
-        get32(&*self.0, at::T1)
+        get32(&*self.0, At::<R>::T1)
     }
 
-    pub fn link_own(&self) -> &[u8; COMMIT] {
-        self.0[at::LINK_OWN..].first_chunk().unwrap()
+    pub fn link_peer(&self) -> &[u8] {
+        &self.0[At::<R>::LINK_PEER..]
     }
 
-    pub fn link_peer(&self) -> &[u8; COMMIT] {
-        self.0[at::LINK_PEER..].first_chunk().unwrap()
-    }
-
-    /// Octets 7 to 563 as the form of the table has them.
+    /// The octets of the run as the form of the table has them.
     pub fn run_sound(&self, groups: &Groups) -> bool {
         let octets = &*self.0;
         let state = octets[at::STATE];
         if state == 0 {
-            return all_zero(&octets[at::STATE..at::LINK]);
+            return all_zero(&octets[at::STATE..At::<R>::LINK]);
         }
         let (group, sync, rejected, sc) = (self.group(), self.sync(), self.rejected(), self.sc());
         let token = usize::from(get16(octets, at::TOKEN_LEN));
@@ -145,39 +147,39 @@ impl<T: Deref<Target = [u8; RECORD]>> Peer<T> {
             return false;
         }
         let commit = commit_len(group);
-        all_zero(&octets[at::OWN + commit..at::PEER])
-            && all_zero(&octets[at::TOKEN + token..at::LINK])
+        all_zero(&octets[at::OWN + commit..At::<R>::PEER])
+            && all_zero(&octets[At::<R>::TOKEN + token..At::<R>::LINK])
             && if state == 1 {
                 // "Committed only, never the run's own"; "(zero in Committed)".
                 let allowed = ((1 << groups.count) - 1) & !(1 << groups.place(group));
-                rejected & !allowed == 0 && sc == 0 && all_zero(&octets[at::PEER..at::TOKEN])
+                rejected & !allowed == 0 && sc == 0 && all_zero(&octets[At::<R>::PEER..At::<R>::TOKEN])
             } else {
                 // "Sc (Sync + 1 in Confirmed, else 0)".
-                rejected == 0 && sc == u16::from(sync) + 1 && all_zero(&octets[at::PEER + commit..at::TOKEN])
+                rejected == 0 && sc == u16::from(sync) + 1 && all_zero(&octets[At::<R>::PEER + commit..At::<R>::TOKEN])
             }
     }
 
-    /// Octets 564 to 863 as the form of the table has them.
+    /// The octets of the link as the form of the table has them.
     pub fn link_sound(&self, groups: &Groups) -> bool {
         let octets = &*self.0;
-        if octets[at::LINK] == 0 {
-            return all_zero(&octets[at::LINK..]);
+        if octets[At::<R>::LINK] == 0 {
+            return all_zero(&octets[At::<R>::LINK..]);
         }
         let group = self.link_group();
-        if octets[at::LINK] > 1
-            || octets[at::SUPERSEDED] > 1
-            || octets[at::LINK_SYNC] > HIGHEST_SYNC
-            || octets[at::LINK_PAD] != 0
+        if octets[At::<R>::LINK] > 1
+            || octets[At::<R>::SUPERSEDED] > 1
+            || octets[At::<R>::LINK_SYNC] > HIGHEST_SYNC
+            || octets[At::<R>::LINK_PAD] != 0
             || !groups.lists(group)
         {
             return false;
         }
         let commit = commit_len(group);
-        all_zero(&octets[at::LINK_OWN + commit..at::LINK_PEER]) && all_zero(&octets[at::LINK_PEER + commit..])
+        all_zero(&octets[At::<R>::LINK_OWN + commit..At::<R>::LINK_PEER]) && all_zero(&octets[At::<R>::LINK_PEER + commit..])
     }
 }
 
-impl Peer<&mut [u8; RECORD]> {
+impl<const R: usize> Peer<&mut [u8; R]> {
     /// The record is in use by this address.
     pub fn seat(&mut self, address: &Address) {
         self.0[at::IN_USE] = 1;
@@ -213,53 +215,53 @@ impl Peer<&mut [u8; RECORD]> {
     }
 
     pub fn set_own_commit(&mut self, commit: &[u8]) {
-        store(&mut self.0[at::OWN..at::PEER], commit);
+        store(&mut self.0[at::OWN..At::<R>::PEER], commit);
     }
 
     pub fn set_peer_commit(&mut self, commit: &[u8]) {
-        store(&mut self.0[at::PEER..at::TOKEN], commit);
+        store(&mut self.0[At::<R>::PEER..At::<R>::TOKEN], commit);
     }
 
     pub fn set_token(&mut self, token: &[u8]) {
         put16(self.0, at::TOKEN_LEN, token.len() as u16);
-        store(&mut self.0[at::TOKEN..at::LINK], token);
+        store(&mut self.0[At::<R>::TOKEN..At::<R>::LINK], token);
     }
 
     /// "A run or link that ends in any way leaves its fields zero."
     pub fn end_run(&mut self) {
-        self.0[at::STATE..at::LINK].fill(0);
+        self.0[at::STATE..At::<R>::LINK].fill(0);
     }
 
     /// The run's pair and Sync become the link's; the run is still there.
     pub fn link_run(&mut self, rc: u16, t1: u32) {
         let group = self.group();
-        self.0[at::LINK] = 1;
-        self.0[at::SUPERSEDED] = 0;
-        self.0[at::LINK_SYNC] = self.0[at::SYNC];
-        put16(self.0, at::LINK_GROUP, group);
-        put16(self.0, at::RC, rc);
-        put32(self.0, at::T1, t1);
-        self.0.copy_within(at::OWN..at::TOKEN, at::LINK_OWN);
+        self.0[At::<R>::LINK] = 1;
+        self.0[At::<R>::SUPERSEDED] = 0;
+        self.0[At::<R>::LINK_SYNC] = self.0[at::SYNC];
+        put16(self.0, At::<R>::LINK_GROUP, group);
+        put16(self.0, At::<R>::RC, rc);
+        put32(self.0, At::<R>::T1, t1);
+        self.0.copy_within(at::OWN..At::<R>::TOKEN, At::<R>::LINK_OWN);
     }
 
     pub fn supersede(&mut self) {
-        self.0[at::SUPERSEDED] = 1;
+        self.0[At::<R>::SUPERSEDED] = 1;
     }
 
     pub fn set_link_sync(&mut self, sync: u8) {
-        self.0[at::LINK_SYNC] = sync;
+        self.0[At::<R>::LINK_SYNC] = sync;
     }
 
     pub fn set_rc(&mut self, rc: u16) {
-        put16(self.0, at::RC, rc);
+        put16(self.0, At::<R>::RC, rc);
     }
 
     pub fn end_link(&mut self) {
-        self.0[at::LINK..].fill(0);
+        self.0[At::<R>::LINK..].fill(0);
     }
 }
 
-/// `octets`, then zeros: "each stored one starts from 144 zero octets".
+/// `octets`, then zeros: "each stored one starts from 144 zero octets", in the wide form from 198.
 fn store(field: &mut [u8], octets: &[u8]) {
     let (front, tail) = field.split_at_mut(octets.len());
     front.copy_from_slice(octets);

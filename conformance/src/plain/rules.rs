@@ -2,11 +2,11 @@
 
 use super::engine::Refusal;
 use super::frame::{Body, COMMIT, CONFIRM, GROUP_REFUSED, SUCCESS, TOKEN_REQUIRED};
-use super::peer::{same_scalar, Peer, State, RECORD};
+use super::peer::{same_scalar, Peer, State};
 use super::table::{Groups, Settings};
 
 /// A record that a rule may change.
-pub type Record<'a> = Peer<&'a mut [u8; RECORD]>;
+pub type Record<'a, const R: usize> = Peer<&'a mut [u8; R]>;
 
 /// The counter of the Confirm that a finished link answers with.
 pub const LINK_COUNTER: u16 = 65_535;
@@ -96,12 +96,12 @@ impl Step {
 }
 
 /// "Set t0": deadline = now + 40 × 2^Sync, modulo 2^32.
-fn set_t0(peer: &mut Record, now: u32) {
+fn set_t0<const R: usize>(peer: &mut Record<R>, now: u32) {
     peer.set_t0(now.wrapping_add(Settings::PERIOD << peer.sync()));
 }
 
 /// "Repeat": if Sync is above 5, give up; else Sync + 1, send, set t0.
-fn retransmit(peer: &mut Record, now: u32, frame: Frame) -> Step {
+fn retransmit<const R: usize>(peer: &mut Record<R>, now: u32, frame: Frame) -> Step {
     if peer.sync() > Settings::SYNC_LIMIT {
         return abandon(peer);
     }
@@ -111,7 +111,7 @@ fn retransmit(peer: &mut Record, now: u32, frame: Frame) -> Step {
 }
 
 /// "Give up": the run ends.
-fn abandon(peer: &mut Record) -> Step {
+fn abandon<const R: usize>(peer: &mut Record<R>) -> Step {
     peer.end_run();
     Step::event(Event::Abandoned)
 }
@@ -123,7 +123,7 @@ fn drop_frame() -> Step {
 
 /// "Form": take the frame's group, store the peer commit, Sync 0, Sc 1, no rejected groups, Confirmed, set t0;
 /// if a link is there, its mark becomes 1.
-fn form_pair(peer: &mut Record, now: u32, group: u16, commit: &[u8]) {
+fn form_pair<const R: usize>(peer: &mut Record<R>, now: u32, group: u16, commit: &[u8]) {
     peer.set_group(group);
     peer.set_peer_commit(commit);
     peer.set_sync(0);
@@ -137,24 +137,24 @@ fn form_pair(peer: &mut Record, now: u32, group: u16, commit: &[u8]) {
 }
 
 /// "Fresh commit, Form, send Commit and Confirm."
-fn answer_commit(peer: &mut Record, turn: &Turn, group: u16, commit: &[u8]) -> Step {
-    peer.set_own_commit(turn.groups.fresh_commit(turn.fresh, group));
+fn answer_commit<const R: usize>(peer: &mut Record<R>, turn: &Turn, group: u16, commit: &[u8]) -> Step {
+    peer.set_own_commit(turn.groups.fresh_commit::<R>(turn.fresh, group));
     form_pair(peer, turn.now, group, commit);
     Step::send_both(Frame::commit(group), Frame::confirm(1)).with_fresh(group)
 }
 
 /// "Start: Committed, first group, fresh commit, Sync 0, no token, send Commit, set t0."
-pub fn initiate(peer: &mut Record, turn: &Turn) -> Step {
+pub fn initiate<const R: usize>(peer: &mut Record<R>, turn: &Turn) -> Step {
     let group = turn.groups.list[0];
     peer.set_state(State::Committed);
     peer.set_group(group);
-    peer.set_own_commit(turn.groups.fresh_commit(turn.fresh, group));
+    peer.set_own_commit(turn.groups.fresh_commit::<R>(turn.fresh, group));
     set_t0(peer, turn.now);
     Step::send(Frame::commit(group)).with_fresh(group)
 }
 
 /// "Commit, no run, in this order". The record is the peer's own or a free one; there may be neither.
-fn commit_without_run(mut peer: Option<&mut Record>, turn: &Turn, body: &Body) -> Result<Step, Refusal> {
+fn commit_without_run<const R: usize>(mut peer: Option<&mut Record<R>>, turn: &Turn, body: &Body) -> Result<Step, Refusal> {
     let (group, token, commit) = match *body {
         Body::Commit { group, token, commit } => (group, token, commit),
         // "unsupported group, send 77 with it"
@@ -163,7 +163,7 @@ fn commit_without_run(mut peer: Option<&mut Record>, turn: &Turn, body: &Body) -
         _ => return Ok(drop_frame()),
     };
     // "finished link with that group and peer scalar, drop"
-    let known = |peer: &&mut Record| peer.has_link() && peer.link_group() == group && same_scalar(group, peer.link_peer(), commit);
+    let known = |peer: &&mut Record<R>| peer.has_link() && peer.link_group() == group && same_scalar(group, peer.link_peer(), commit);
     if peer.as_ref().is_some_and(known) {
         return Ok(drop_frame());
     }
@@ -175,7 +175,7 @@ fn commit_without_run(mut peer: Option<&mut Record>, turn: &Turn, body: &Body) -
         return Ok(drop_frame());
     }
     // "then commit equal to our stock's, or verdict 0, drop"
-    if !turn.verified || commit == turn.groups.fresh_commit(turn.fresh, group) {
+    if !turn.verified || commit == turn.groups.fresh_commit::<R>(turn.fresh, group) {
         return Ok(drop_frame());
     }
     // "no slot, refuse; else fresh commit, Form, send Commit and Confirm"
@@ -185,7 +185,7 @@ fn commit_without_run(mut peer: Option<&mut Record>, turn: &Turn, body: &Body) -
 
 /// Commit in Committed, "76: our group, store the token, send Commit with it"; "A Commit sent again for a 76 is now a Repeat: it
 /// gives up above the limit and raises Sync"; "other group, drop."
-fn token_request_in_committed(peer: &mut Record, turn: &Turn, group: u16, token: &[u8]) -> Step {
+fn token_request_in_committed<const R: usize>(peer: &mut Record<R>, turn: &Turn, group: u16, token: &[u8]) -> Step {
     if group != peer.group() {
         return drop_frame();
     }
@@ -198,7 +198,7 @@ fn token_request_in_committed(peer: &mut Record, turn: &Turn, group: u16, token:
 
 /// Commit in Committed, "77: our group, mark it rejected and take the first group in its own list that is not marked as
 /// rejected, with a fresh commit (Sync and token stay, send, set t0); none, give up. Other group, drop."
-fn group_refusal_in_committed(peer: &mut Record, turn: &Turn, group: u16) -> Step {
+fn group_refusal_in_committed<const R: usize>(peer: &mut Record<R>, turn: &Turn, group: u16) -> Step {
     if group != peer.group() {
         return drop_frame();
     }
@@ -209,25 +209,25 @@ fn group_refusal_in_committed(peer: &mut Record, turn: &Turn, group: u16) -> Ste
     };
     peer.set_rejected(rejected);
     peer.set_group(next);
-    peer.set_own_commit(turn.groups.fresh_commit(turn.fresh, next));
+    peer.set_own_commit(turn.groups.fresh_commit::<R>(turn.fresh, next));
     set_t0(peer, turn.now);
     Step::send(Frame::commit(next)).with_fresh(next)
 }
 
 /// Commit in Committed, status 0: "unsupported group, Repeat sending 77."
-fn unsupported_commit_in_committed(peer: &mut Record, turn: &Turn, group: u16) -> Step {
+fn unsupported_commit_in_committed<const R: usize>(peer: &mut Record<R>, turn: &Turn, group: u16) -> Step {
     retransmit(peer, turn.now, Frame::group_refusal(group))
 }
 
 /// Commit in Committed, status 0: "Supported but not ours: higher own address, Repeat the Commit; lower: verdict 0 or equal
 /// to our stock's, drop; else fresh commit, Form, send Commit and Confirm. Ours: equal to our commit or verdict 0, drop;
 /// else Form, send Confirm."
-fn commit_in_committed(peer: &mut Record, turn: &Turn, group: u16, commit: &[u8]) -> Step {
+fn commit_in_committed<const R: usize>(peer: &mut Record<R>, turn: &Turn, group: u16, commit: &[u8]) -> Step {
     let ours = group == peer.group();
     if !ours && turn.higher {
         return retransmit_commit(peer, turn.now);
     }
-    let reflected = commit == if ours { peer.own_commit() } else { turn.groups.fresh_commit(turn.fresh, group) };
+    let reflected = commit == if ours { peer.own_commit() } else { turn.groups.fresh_commit::<R>(turn.fresh, group) };
     if reflected || !turn.verified {
         return drop_frame();
     }
@@ -239,19 +239,19 @@ fn commit_in_committed(peer: &mut Record, turn: &Turn, group: u16, commit: &[u8]
 }
 
 /// "Repeat the Commit."
-fn retransmit_commit(peer: &mut Record, now: u32) -> Step {
+fn retransmit_commit<const R: usize>(peer: &mut Record<R>, now: u32) -> Step {
     let group = peer.group();
     retransmit(peer, now, Frame::commit(group))
 }
 
 /// "Confirm in Committed: nonzero status, drop; else Repeat the Commit."
-fn confirm_in_committed(peer: &mut Record, turn: &Turn) -> Step {
+fn confirm_in_committed<const R: usize>(peer: &mut Record<R>, turn: &Turn) -> Step {
     retransmit_commit(peer, turn.now)
 }
 
 /// "Confirmed. Commit: status nonzero, drop; Sync above 5, give up; group differs, drop; else Sync + 1, Sc + 1, send Commit
 /// and Confirm, set t0; the stored peer commit stays."
-fn commit_in_confirmed(peer: &mut Record, turn: &Turn, group: u16) -> Step {
+fn commit_in_confirmed<const R: usize>(peer: &mut Record<R>, turn: &Turn, group: u16) -> Step {
     if peer.sync() > Settings::SYNC_LIMIT {
         return abandon(peer);
     }
@@ -266,7 +266,7 @@ fn commit_in_confirmed(peer: &mut Record, turn: &Turn, group: u16) -> Step {
 
 /// "Confirm: status nonzero or verdict 0, drop; else the run becomes the link: Rc its counter, Sync carried over, mark 0,
 /// t1 = now + 86,400,000, any earlier link replaced."
-fn confirm_in_confirmed(peer: &mut Record, turn: &Turn, counter: u16) -> Step {
+fn confirm_in_confirmed<const R: usize>(peer: &mut Record<R>, turn: &Turn, counter: u16) -> Step {
     if !turn.verified {
         return drop_frame();
     }
@@ -277,7 +277,7 @@ fn confirm_in_confirmed(peer: &mut Record, turn: &Turn, counter: u16) -> Step {
 
 /// "Link, no run, Confirm: status nonzero, drop; its Sync above 5, link ends; counter not above Rc, drop; verdict 0, drop;
 /// else Rc is the counter, and unless that is 65,535, Sync + 1 and a Confirm with counter 65,535."
-fn confirm_at_link(peer: &mut Record, turn: &Turn, counter: u16) -> Step {
+fn confirm_at_link<const R: usize>(peer: &mut Record<R>, turn: &Turn, counter: u16) -> Step {
     if peer.link_sync() > Settings::SYNC_LIMIT {
         return end_link(peer);
     }
@@ -292,13 +292,13 @@ fn confirm_at_link(peer: &mut Record, turn: &Turn, counter: u16) -> Step {
     Step::send(Frame::confirm(LINK_COUNTER))
 }
 
-fn end_link(peer: &mut Record) -> Step {
+fn end_link<const R: usize>(peer: &mut Record<R>) -> Step {
     peer.end_link();
     Step::event(Event::LinkEnded)
 }
 
 /// A frame received. "A run takes all frames while it lasts. Confirm with neither: drop."
-pub fn receive(peer: Option<&mut Record>, turn: &Turn, body: &Body) -> Result<Step, Refusal> {
+pub fn receive<const R: usize>(peer: Option<&mut Record<R>>, turn: &Turn, body: &Body) -> Result<Step, Refusal> {
     match peer {
         Some(peer) if peer.state() == State::Committed => Ok(receive_in_committed(peer, turn, body)),
         Some(peer) if peer.state() == State::Confirmed => Ok(receive_in_confirmed(peer, turn, body)),
@@ -306,7 +306,7 @@ pub fn receive(peer: Option<&mut Record>, turn: &Turn, body: &Body) -> Result<St
     }
 }
 
-fn receive_without_run(peer: Option<&mut Record>, turn: &Turn, body: &Body) -> Result<Step, Refusal> {
+fn receive_without_run<const R: usize>(peer: Option<&mut Record<R>>, turn: &Turn, body: &Body) -> Result<Step, Refusal> {
     match *body {
         Body::Confirm { counter, .. } => match peer {
             Some(peer) if peer.has_link() => Ok(confirm_at_link(peer, turn, counter)),
@@ -317,7 +317,7 @@ fn receive_without_run(peer: Option<&mut Record>, turn: &Turn, body: &Body) -> R
     }
 }
 
-fn receive_in_committed(peer: &mut Record, turn: &Turn, body: &Body) -> Step {
+fn receive_in_committed<const R: usize>(peer: &mut Record<R>, turn: &Turn, body: &Body) -> Step {
     match *body {
         Body::TokenRequest { group, token } => token_request_in_committed(peer, turn, group, token),
         Body::GroupRefusal { group } => group_refusal_in_committed(peer, turn, group),
@@ -329,7 +329,7 @@ fn receive_in_committed(peer: &mut Record, turn: &Turn, body: &Body) -> Step {
     }
 }
 
-fn receive_in_confirmed(peer: &mut Record, turn: &Turn, body: &Body) -> Step {
+fn receive_in_confirmed<const R: usize>(peer: &mut Record<R>, turn: &Turn, body: &Body) -> Step {
     match *body {
         Body::Commit { group, .. } | Body::UnsupportedCommit { group } => commit_in_confirmed(peer, turn, group),
         Body::Confirm { counter, .. } => confirm_in_confirmed(peer, turn, counter),
@@ -344,7 +344,7 @@ pub fn due(now: u32, deadline: u32) -> bool {
 }
 
 /// In Committed "t0: Repeat the Commit"; in Confirmed "t0: Repeat with Sc + 1 and a new Confirm".
-pub fn expire_t0(peer: &mut Record, now: u32) -> Step {
+pub fn expire_t0<const R: usize>(peer: &mut Record<R>, now: u32) -> Step {
     if peer.state() == State::Committed {
         return retransmit_commit(peer, now);
     }
@@ -357,6 +357,6 @@ pub fn expire_t0(peer: &mut Record, now: u32) -> Step {
 }
 
 /// "t1: link ends."
-pub fn expire_t1(peer: &mut Record) -> Step {
+pub fn expire_t1<const R: usize>(peer: &mut Record<R>) -> Step {
     end_link(peer)
 }

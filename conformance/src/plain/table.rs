@@ -1,21 +1,20 @@
 //! The lent table: its layout, its form, and the places in it.
 
+use super::form::{Form, GROUPS, SLOTS, WIDE};
 use super::frame::{commit_len, scalar_len};
 use super::octets::{all_zero, get16, individual, pack, put16, usable, Address};
-use super::peer::{Peer, RECORD};
+use super::peer::Peer;
 
-/// Octets of a stored commit: scalar, element, and zeros behind a shorter one.
-pub const COMMIT: usize = 144;
-/// Groups that a list can hold.
-pub const GROUPS: usize = 2;
-/// Slots that a table can have.
-pub const SLOTS: usize = 64;
 /// Octets of the longest token.
 pub const TOKEN: usize = 256;
 /// The highest token threshold.
 pub const HIGHEST_THRESHOLD: u16 = 64;
 /// Octets of the header: the offset of the first record.
 pub const HEADER: usize = 32;
+/// Where the header has the groups: "the third in header octets 30–31".
+const GROUPS_AT: [usize; GROUPS] = [24, 26, 30];
+/// Where the settings have them.
+const SETTINGS_GROUPS_AT: [usize; GROUPS] = [2, 4, 6];
 
 /// What set up is given.
 pub struct Settings {
@@ -30,36 +29,41 @@ impl Settings {
     pub const SYNC_LIMIT: u8 = 5;
 
     pub fn factory() -> Settings {
-        Settings { groups: Groups { count: 2, list: [19, 20] }, threshold: Self::THRESHOLD }
+        Settings { groups: Groups { count: 2, list: [19, 20, 0] }, threshold: Self::THRESHOLD }
     }
 
-    /// The settings that 16 octets say, if they are right.
+    /// The settings that 16 octets say, if they are right: those of the form that set up makes.
     pub fn read(octets: &[u8; 16]) -> Option<Settings> {
-        let groups = Groups { count: octets[0], list: [get16(octets, 2), get16(octets, 4)] };
+        let groups = Groups { count: octets[0], list: SETTINGS_GROUPS_AT.map(|at| get16(octets, at)) };
         let threshold = get16(octets, 8);
-        let zeros = octets[1] == 0 && all_zero(&octets[6..8]) && all_zero(&octets[10..]);
-        (zeros && groups.right() && threshold <= HIGHEST_THRESHOLD).then_some(Settings { groups, threshold })
+        let zeros = octets[1] == 0 && all_zero(&octets[10..]);
+        (zeros && groups.right::<WIDE>() && threshold <= HIGHEST_THRESHOLD).then_some(Settings { groups, threshold })
     }
 
     /// The 16 octets that say these settings.
     pub fn octets(&self) -> [u8; 16] {
         let mut octets = [0; 16];
         octets[0] = self.groups.count;
-        put16(&mut octets, 2, self.groups.list[0]);
-        put16(&mut octets, 4, self.groups.list[1]);
+        for (at, group) in SETTINGS_GROUPS_AT.into_iter().zip(self.groups.list) {
+            put16(&mut octets, at, group);
+        }
         put16(&mut octets, 8, self.threshold);
         octets
     }
 }
 
 /// The listed groups, the most preferred first; 0 past the count.
-#[derive(Clone, Copy)]
+#[derive(Clone, Copy, PartialEq)]
 pub struct Groups {
     pub count: u8,
     pub list: [u16; GROUPS],
 }
 
 impl Groups {
+    pub fn in_header(head: &[u8; HEADER]) -> Groups {
+        Groups { count: head[22], list: GROUPS_AT.map(|at| get16(head, at)) }
+    }
+
     pub fn listed(&self) -> &[u16] {
         &self.list[..usize::from(self.count)]
     }
@@ -74,26 +78,31 @@ impl Groups {
         self.list.iter().take_while(|&&listed| listed != group).count()
     }
 
-    /// "group count (1 or 2); the groups (19 or 20), each once, in order of preference"; 0 past the count.
-    fn right(&self) -> bool {
-        let known = |group| scalar_len(group) != 0;
-        let [first, second] = self.list;
+    /// "group count (1 or 2); the groups (19 or 20), each once, in order of preference"; 0 past the count. In the wide form "the
+    /// list holds up to three groups", and 21 has room.
+    fn right<const R: usize>(&self) -> bool {
+        let known = |group| scalar_len(group) != 0 && commit_len(group) <= Form::<R>::COMMIT;
+        let [first, second, third] = self.list;
         match self.count {
-            1 => known(first) && second == 0,
-            2 => known(first) && known(second) && first != second,
+            1 => known(first) && second == 0 && third == 0,
+            2 => known(first) && known(second) && first != second && third == 0,
+            3 if Form::<R>::GROUPS == 3 => {
+                known(first) && known(second) && known(third) && first != second && first != third && second != third
+            }
             _ => false,
         }
     }
 
-    /// "A stock: 144 octets for each group in list order, a shorter commit followed by zeros."
-    pub fn fresh_right(&self, fresh: &[u8]) -> bool {
-        fresh.len() == COMMIT * usize::from(self.count)
-            && self.listed().iter().zip(fresh.chunks_exact(COMMIT)).all(|(&group, commit)| all_zero(&commit[commit_len(group)..]))
+    /// "A stock: 144 octets for each group in list order, a shorter commit followed by zeros"; in the wide form 198.
+    pub fn fresh_right<const R: usize>(&self, fresh: &[u8]) -> bool {
+        let parts = fresh.chunks_exact(Form::<R>::COMMIT);
+        fresh.len() == Form::<R>::COMMIT * usize::from(self.count)
+            && self.listed().iter().zip(parts).all(|(&group, commit)| all_zero(&commit[commit_len(group)..]))
     }
 
     /// The fresh commit for a listed group, without the zeros behind.
-    pub fn fresh_commit<'a>(&self, fresh: &'a [u8], group: u16) -> &'a [u8] {
-        &fresh[COMMIT * self.place(group)..][..commit_len(group)]
+    pub fn fresh_commit<'a, const R: usize>(&self, fresh: &'a [u8], group: u16) -> &'a [u8] {
+        &fresh[Form::<R>::COMMIT * self.place(group)..][..commit_len(group)]
     }
 }
 
@@ -105,43 +114,50 @@ pub struct Header {
     pub open: u16,
 }
 
+/// What the header says of the size of a record, if there is a header: it alone tells the form.
+pub fn record_size(table: &[u8]) -> Option<usize> {
+    table.first_chunk::<HEADER>().map(|head| usize::from(get16(head, 6)))
+}
+
 /// The slots of a table of the right length.
-pub fn slots(table: &[u8]) -> &[[u8; RECORD]] {
+pub fn slots<const R: usize>(table: &[u8]) -> &[[u8; R]] {
     table[HEADER..].as_chunks().0
 }
 
 /// The record in a slot, to be changed.
-pub fn peer_at(table: &mut [u8], slot: usize) -> Peer<&mut [u8; RECORD]> {
+pub fn peer_at<const R: usize>(table: &mut [u8], slot: usize) -> Peer<&mut [u8; R]> {
     Peer(&mut table[HEADER..].as_chunks_mut().0[slot])
 }
 
-/// The number of slots for which a table has this length: "The table's length is 32 + 864 × N", N from 1 to 64.
-pub fn slots_for(length: usize) -> Option<usize> {
+/// The number of slots for which a table has this length: "The table's length is 32 + 864 × N", N from 1 to 64; of 1,080, "N is at
+/// most 60".
+pub fn slots_for<const R: usize>(length: usize) -> Option<usize> {
     let records = length.checked_sub(HEADER)?;
-    (records % RECORD == 0 && (1..=SLOTS).contains(&(records / RECORD))).then_some(records / RECORD)
+    (records % R == 0 && (1..=Form::<R>::SLOTS).contains(&(records / R))).then_some(records / R)
 }
 
 /// "Set up (also clears)".
-pub fn initialize(table: &mut [u8], slots: usize, own: &Address, settings: &Settings) {
+pub fn initialize<const R: usize>(table: &mut [u8], slots: usize, own: &Address, settings: &Settings) {
     table.fill(0);
     put16(table, 0, slots as u16);
-    put16(table, 6, RECORD as u16);
+    put16(table, 6, R as u16);
     put16(table, 8, HEADER as u16);
     table[16..22].copy_from_slice(own);
     table[22] = settings.groups.count;
-    put16(table, 24, settings.groups.list[0]);
-    put16(table, 26, settings.groups.list[1]);
+    for (at, group) in GROUPS_AT.into_iter().zip(settings.groups.list) {
+        put16(table, at, group);
+    }
     put16(table, 28, settings.threshold);
 }
 
 /// The header, if the table is of its form. One pass.
-pub fn sound(table: &[u8]) -> Option<Header> {
-    let slots = slots_for(table.len())?;
+pub fn sound<const R: usize>(table: &[u8]) -> Option<Header> {
+    let slots = slots_for::<R>(table.len())?;
     let (head, records) = table.split_first_chunk()?;
-    let header = sound_header(head, slots)?;
+    let header = sound_header::<R>(head, slots)?;
     let mut addresses = [0; SLOTS];
     let (mut in_use, mut open) = (0, 0);
-    for octets in records.as_chunks::<RECORD>().0 {
+    for octets in records.as_chunks::<R>().0 {
         let peer = Peer(octets);
         if !peer.in_use() {
             // "Unused parts and free slots are zero."
@@ -172,30 +188,29 @@ fn among(addresses: &[u64], address: u64) -> bool {
 }
 
 /// "Header, 32 octets": all of it that can be told without the records.
-fn sound_header(head: &[u8; HEADER], slots: usize) -> Option<Header> {
+fn sound_header<const R: usize>(head: &[u8; HEADER], slots: usize) -> Option<Header> {
     let own = pack(head[16..].first_chunk().unwrap());
-    let groups = Groups { count: head[22], list: [get16(head, 24), get16(head, 26)] };
+    let groups = Groups::in_header(head);
     let threshold = get16(head, 28);
     let right = usize::from(get16(head, 0)) == slots
-        && usize::from(get16(head, 6)) == RECORD
+        && usize::from(get16(head, 6)) == R
         && usize::from(get16(head, 8)) == HEADER
         && all_zero(&head[10..16])
         && individual(own)
-        && groups.right()
+        && groups.right::<R>()
         && head[23] == 0
-        && threshold <= HIGHEST_THRESHOLD
-        && all_zero(&head[30..]);
+        && threshold <= HIGHEST_THRESHOLD;
     right.then_some(Header { own, groups, threshold, open: get16(head, 4) })
 }
 
 /// The slot of the record with this address, a usable one.
-pub fn find(table: &[u8], address: u64) -> Option<usize> {
-    slots(table).iter().position(|octets| pack(Peer(octets).address()) == address)
+pub fn find<const R: usize>(table: &[u8], address: u64) -> Option<usize> {
+    slots::<R>(table).iter().position(|octets| pack(Peer(octets).address()) == address)
 }
 
 /// "A new peer takes the free slot nearest the end."
-pub fn last_free(table: &[u8]) -> Option<usize> {
-    slots(table).iter().rposition(|octets| !Peer(octets).in_use())
+pub fn last_free<const R: usize>(table: &[u8]) -> Option<usize> {
+    slots::<R>(table).iter().rposition(|octets| !Peer(octets).in_use())
 }
 
 /// What a record adds to the header's two counts.

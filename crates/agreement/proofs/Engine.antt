@@ -6,7 +6,7 @@ use mathlib.Core.List.{List, []}
 use Prim.Native.Nat.{ℕ, _+_, _^_, _≤_, _<_}
 use native.Mathlib.Omega.{arith}
 use native.Mathlib.Nat.{zero-div}
-use lib.Dec.{eqb, ltb, lit<, lit≤}
+use lib.Dec.{eqb, ltb, lit<}
 use lib.ListN.{length, getD}
 use lib.Seq.{length-take-le}
 use borrow.Author.Tests.{eqb-true, not-false}
@@ -23,17 +23,18 @@ use Rattle.frame.specs.declared.Body.the-variants as body
 use Rattle.frame.proofs.Shapes.{commit-shape, other-confirm-shape}
 use Rattle.record.specs.declared.Peer.{Peer}
 use Rattle.record.specs.declared.Counts.{Counts}
+use Rattle.record.specs.declared.Form.{Form}
 use Rattle.record.specs.declared.Header.{Header}
-use Rattle.record.specs.Layout.{widthIn, groupsOf, limitOf, counted, noPeer, decodeHeader, headerOf}
+use Rattle.record.specs.Layout.{formOf, widthIn, groupsOf, limitOf, counted, noPeer, decodeHeader, headerOf}
 use Rattle.record.specs.SettingsOctets.{settingsOf, reservedZero}
-use Rattle.record.proofs.Laws.{form-width}
-use Rattle.soundness.proofs.Laws.{header-groups, header-width}
+use Rattle.record.proofs.Laws.{Served, form-width}
+use Rattle.soundness.proofs.Laws.{header-groups, header-width, header-count}
 use Rattle.table.specs.Table.{Table, decodeTable, encodeTable, recounted, slot, finds, look, lookBy, sound, entry}
 use Rattle.table.specs.Initial.{initialOk, slotsFor, initialTable, initial}
 use Rattle.table.specs.declared.Entry.{Entry}
 use Rattle.table.specs.declared.Entry.the-variants as entry-is
 use Rattle.table.proofs.Laws.{entry-at, entry-absent, sound-header}
-use Rattle.table.proofs.Initial.{FitSettings, initial-slot, initial-decoded, bytes-initial}
+use Rattle.table.proofs.Initial.{FitSettings, initial-slot, initial-served, initial-decoded, bytes-initial}
 use Rattle.rules.specs.declared.Frames.the-variants as frames
 use Rattle.rules.specs.Book.{_is_, hasRun, Step, silence}
 use Rattle.message.specs.View.{view, viewOf, message, messageOf, commitIn}
@@ -137,11 +138,11 @@ module _ (t : List ℕ) (s : sound t ≡ true) where
   unfolding decodeTable decodeHeader headerOf
   first-listed =
       let g = header-groups _ (sound-header t s) in
-      let n = length-take-le (head .settings .count) (head .settings .groups) (omega (arith, g .few)) in
+      let n = length-take-le (head .settings .count) (head .settings .groups) (omega (arith, header-count _ (sound-header t s))) in
       omega (arith, n, g .some)
 
   width-low : 1 ≤ widthIn head
-  width-low = rw (header-width head (sound-header t s)) (lit≤ tt)
+  width-low = omega (arith, header-width head (sound-header t s))
 
   module _ (c : Call) (w : freshOk (widthIn head) (groupsIn t) (stockOf c) ≡ true) where
     all-stocked : Stocked (groupsIn t) c
@@ -238,9 +239,9 @@ pub data Ends (t : List ℕ) : Call → Type 0 where
   -- a refusal, nothing due, or the writer's
   idles : {c : Call} → done t c ≡ false → tableAfter t c ≡ t → Ends t c
   -- a set up: no address has a record
-  sets-up : {buffer own settings : List ℕ} → done t (initialize buffer own settings) ≡ true → left t (initialize buffer own settings) .answer .frames ≡ frames.None
-      → Bytes (tableAfter t (initialize buffer own settings)) → ((a : List ℕ) → look (decodeTable (tableAfter t (initialize buffer own settings))) a ≡ noPeer)
-      → Ends t (initialize buffer own settings)
+  sets-up : {size : ℕ} {buffer own settings : List ℕ} → done t (initialize size buffer own settings) ≡ true → left t (initialize size buffer own settings) .answer .frames ≡ frames.None
+      → Bytes (tableAfter t (initialize size buffer own settings)) → ((a : List ℕ) → look (decodeTable (tableAfter t (initialize size buffer own settings))) a ≡ noPeer)
+      → Ends t (initialize size buffer own settings)
   frees : {a : List ℕ} → done t (kill a) ≡ true → Made t (tableAfter t (kill a)) a killStep (left t (kill a) .answer) → Ends t (kill a)
   steps : {c : Call} (a : List ℕ) (o : Step) → Told a c → done t c ≡ true → Made t (tableAfter t c) a o (left t c .answer)
       → (Whole (look (decodeTable t) a) → State (look (decodeTable t) a .run .state) → Does (groupsIn t) (limitIn t) c (look (decodeTable t) a) o) → Ends t c
@@ -348,7 +349,7 @@ settings-fit s own hs ho = record {
     groups = refl;
     group0 = two-below s 2 (hs .bytes) (omega (arith, hs .many));
     group1 = two-below s 4 (hs .bytes) (omega (arith, hs .many));
-    group2 = lit< tt;
+    group2 = two-below s 6 (hs .bytes) (omega (arith, hs .many));
     threshold = two-below s 8 (hs .bytes) (omega (arith, hs .many));
     period = lit< tt;
     limit = lit< tt;
@@ -364,24 +365,30 @@ write-ends t w = idles {c = write w} refl refl
 
 module _ (L : Lawful) (t : List ℕ) (b : Bytes t) where
   -- a set up: refused for a reserved octet, for what the settings say, own address or length, or done
-  initialize-ends : (buffer own settings : List ℕ) → Bytes buffer → Octets 6 own → Octets 16 settings → Ends t (initialize buffer own settings)
+  initialize-ends : (size : ℕ) (buffer own settings : List ℕ) → Bytes buffer → Octets 6 own → Octets 16 settings → Ends t (initialize size buffer own settings)
   unfolding done tableAfter initializesFrom initializes ends
-  initialize-ends buffer own settings bb ho hs = go (reservedZero settings) (initialOk (settingsOf settings) own (length buffer)) refl refl
+  initialize-ends size buffer own settings bb ho hs = go (reservedZero settings) (initialOk form (settingsOf settings) own (length buffer)) refl refl
     where
+      form : Form
+      form = formOf size
+
       fit : FitSettings (settingsOf settings) own
       fit = settings-fit settings own hs ho
 
-      made : initialOk (settingsOf settings) own (length buffer) ≡ true
-          → encodeTable (recounted (initialTable (settingsOf settings) own (slotsFor (length buffer)))) ≡ initial (settingsOf settings) own buffer
-      made e = rw e at (set-up-leaves buffer own (settingsOf settings))
+      served : initialOk form (settingsOf settings) own (length buffer) ≡ true → Served form
+      served e = initial-served size (settingsOf settings) own (length buffer) e
 
-      go : (z x : Bool) → reservedZero settings ≡ z → initialOk (settingsOf settings) own (length buffer) ≡ x → Ends t (initialize buffer own settings)
-      go true true z e = sets-up {buffer = buffer} {own = own} {settings = settings} (rw (z, e) (quiet-done own)) (rw (z, e) (quiet-frames own))
-          (rw (z, e, quiet-done own) (subst Bytes (sym (made e)) (bytes-initial (settingsOf settings) own buffer fit bb)))
+      made : initialOk form (settingsOf settings) own (length buffer) ≡ true
+          → encodeTable (recounted (initialTable form (settingsOf settings) own (slotsFor form (length buffer)))) ≡ initial form (settingsOf settings) own buffer
+      made e = rw e at (set-up-leaves size buffer own (settingsOf settings))
+
+      go : (z x : Bool) → reservedZero settings ≡ z → initialOk form (settingsOf settings) own (length buffer) ≡ x → Ends t (initialize size buffer own settings)
+      go true true z e = sets-up {size = size} {buffer = buffer} {own = own} {settings = settings} (rw (z, e) (quiet-done own)) (rw (z, e) (quiet-frames own))
+          (rw (z, e, quiet-done own) (subst Bytes (sym (made e)) (bytes-initial form (served e) (settingsOf settings) own buffer fit bb)))
           (λ a. rw (z, e, quiet-done own) (fresh-look _ a (λ k. ap (λ (u : List ℕ). slot (decodeTable u) k) (made e)
-          ∙ ap (λ (T : Table). slot T k) (initial-decoded (settingsOf settings) own buffer fit e) ∙ initial-slot (settingsOf settings) own (slotsFor (length buffer)) k)))
-      go true false z e = idles {c = initialize buffer own settings} (rw (z, e) (refused-done why.Settings)) (rw (z, e, refused-done why.Settings))
-      go false x z e = idles {c = initialize buffer own settings} (rw z (refused-done why.Settings)) (rw (z, refused-done why.Settings))
+          ∙ ap (λ (T : Table). slot T k) (initial-decoded form (served e) (settingsOf settings) own buffer fit e) ∙ initial-slot form (settingsOf settings) own (slotsFor form (length buffer)) k)))
+      go true false z e = idles {c = initialize size buffer own settings} (rw (z, e) (refused-done why.Settings)) (rw (z, e, refused-done why.Settings))
+      go false x z e = idles {c = initialize size buffer own settings} (rw z (refused-done why.Settings)) (rw (z, refused-done why.Settings))
 
   initiate-ends : (a : List ℕ) (time : ℕ) (fresh : List ℕ) → Octets 6 a → time < 2 ^ 32 → Bytes fresh → Ends t (initiate a time fresh)
   unfolding done tableAfter initiates
@@ -461,7 +468,7 @@ module _ (L : Lawful) (t : List ℕ) (b : Bytes t) where
       go false s = clock-idles t time _ (expires-unsound t time s) (refused-done why.Unsound) refl
 
   pub call-ends : {c : Call} → CallHanded c → Ends t c
-  call-ends (an-initialize bb ho hs) = initialize-ends _ _ _ bb ho hs
+  call-ends (an-initialize bb ho hs) = initialize-ends _ _ _ _ bb ho hs
   call-ends (an-initiate ha ht hf) = initiate-ends _ _ _ ha ht hf
   call-ends (a-kill ha) = kill-ends _ ha
   call-ends (a-receive ha ht hr hf he hv) = receive-ends _ _ _ _ _ _ ha ht hr hf he hv

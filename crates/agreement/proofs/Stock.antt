@@ -17,7 +17,7 @@ use Rattle.octets.proofs.Tests.{zero-is}
 use Rattle.groups.specs.Groups.{width, known, listed, commitLength, stored, placeFrom, place, placeOr0, indexOf, freshOf, freshAt, freshFor, tailsOk, freshOk}
 use Rattle.groups.proofs.Laws.{commit-fits, listed-place, place-at}
 use Rattle.groups.proofs.Fresh.{fresh-length, fresh-width}
-use Rattle.soundness.specs.Soundness.{allKnown, eachOnce}
+use Rattle.soundness.specs.Soundness.{eachOnce}
 use Rattle.soundness.proofs.Laws.{header-groups, listed-known}
 use Rattle.table.specs.Table.{sound}
 use Rattle.table.proofs.Laws.{sound-header}
@@ -71,7 +71,7 @@ padded-of g c l z =
     rw m (ap (λ (x : List ℕ). take (commitLength g) c ++ x) (sym (zero-is _ _ d z)) ∙ take-append-drop (commitLength g) c)
 
 -- the octets s are a stock of width W for the listed groups
-module _ (W : ℕ) (gs s : List ℕ) (low : 1 ≤ W) (high : W ≤ width) (some : 0 < length gs) (k : allKnown gs ≡ true) (o : eachOnce gs ≡ true) (w : freshOk W gs s ≡ true) where
+module _ (W : ℕ) (gs s : List ℕ) (low : 1 ≤ W) (high : W ≤ width) (some : 0 < length gs) (k : (g : ℕ) → listed gs g ≡ true → known g ≡ true) (o : eachOnce gs ≡ true) (w : freshOk W gs s ≡ true) where
   abbrev fresh : List (List ℕ)
   fresh = freshOf W s
 
@@ -96,7 +96,7 @@ module _ (W : ℕ) (gs s : List ℕ) (low : 1 ≤ W) (high : W ≤ width) (some 
 
   known-some : (g : ℕ) → listed gs g ≡ true → eqb g 0 ≡ false
   unfolding known
-  known-some g l = ne-eqb g 0 (λ e. clash (listed-known gs g k l) (rw e))
+  known-some g l = ne-eqb g 0 (λ e. clash (k g l) (rw e))
 
   afresh-at : (c : Call) → stockOf c ≡ s → (i g : ℕ) → i < length gs → getD gs i 0 ≡ g → Afresh gs c g (freshAt fresh i)
   unfolding freshFor
@@ -123,8 +123,8 @@ module _ (W : ℕ) (gs s : List ℕ) (low : 1 ≤ W) (high : W ≤ width) (some 
 -- ---- what a sound table says of its groups
 
 pub record Listing (gs : List ℕ) : Type 0 where
-  pub known : allKnown gs ≡ true
+  pub known : (g : ℕ) → listed gs g ≡ true → known g ≡ true
   pub once : eachOnce gs ≡ true
 
 pub sound-listing : (t : List ℕ) → sound t ≡ true → Listing (groupsIn t)
-sound-listing t s = let g = header-groups _ (sound-header t s) in record { known = g .known; once = g .once }
+sound-listing t s = let ok = sound-header t s in record { known = listed-known _ ok; once = header-groups _ ok .once }

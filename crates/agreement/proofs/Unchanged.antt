@@ -6,6 +6,8 @@ use Prim.Native.Nat.{ℕ}
 use Rattle.protocol.specs.Model.{Side, A, B}
 use Rattle.octets.specs.Scan.{if_then_else_}
 use Rattle.octets.proofs.Scan.{clash}
+use Rattle.record.specs.declared.Form.{Form}
+use Rattle.record.specs.Layout.{formOf}
 use Rattle.record.specs.SettingsOctets.{reservedZero}
 use Rattle.answers.specs.declared.Refusal.the-variants as why
 use Rattle.answers.specs.Answers.{returned, refuse, refused, noneDue}
@@ -26,7 +28,7 @@ unfolding done noneDue
 write-story t w a s = idle-apart t (write w) a s refl
 
 a-write : (c : Call) → isWrite c ≡ true → (w : Writing) × (c ≡ write w)
-a-write (initialize buffer own settings) e = absurd (clash e refl)
+a-write (initialize size buffer own settings) e = absurd (clash e refl)
 a-write (initiate address time fresh) e = absurd (clash e refl)
 a-write (kill address) e = absurd (clash e refl)
 a-write (receive address time frame fresh expected verdict) e = absurd (clash e refl)
@@ -65,22 +67,22 @@ writes-struck (e ∷ h) = go (isWrite (e .call)) refl (writes-struck h)
 
 -- ---- a set up with a reserved octet set
 
-reserved-left : (t own s : List ℕ) → reservedZero s ≡ false → initializesFrom t own s ≡ refuse t why.Settings
+reserved-left : (f : Form) (t own s : List ℕ) → reservedZero s ≡ false → initializesFrom f t own s ≡ refuse t why.Settings
 unfolding initializesFrom
-reserved-left t own s e = rw e
+reserved-left f t own s e = rw e
 
-reserved-number : (buffer own s : List ℕ) → reservedZero s ≡ false → returned (initializesFrom buffer own s .answer .outcome) ≡ 1
+reserved-number : (f : Form) (buffer own s : List ℕ) → reservedZero s ≡ false → returned (initializesFrom f buffer own s .answer .outcome) ≡ 1
 unfolding refused
-reserved-number buffer own s e = rw (reserved-left buffer own s e)
+reserved-number f buffer own s e = rw (reserved-left f buffer own s e)
 
-reserved-table : (t buffer own s : List ℕ) → reservedZero s ≡ false → tableAfter t (initialize buffer own s) ≡ t
+reserved-table : (t : List ℕ) (size : ℕ) (buffer own s : List ℕ) → reservedZero s ≡ false → tableAfter t (initialize size buffer own s) ≡ t
 unfolding tableAfter done refused
-reserved-table t buffer own s e = rw (reserved-left buffer own s e)
+reserved-table t size buffer own s e = rw (reserved-left (formOf size) buffer own s e)
 
 -- A SET UP WITH A RESERVED OCTET SET is refused 1 in the list too, and its printer keeps its table
-pub reserved-refused : (e : Entry) (h : List Entry) (buffer own settings : List ℕ) → e .call ≡ initialize buffer own settings → reservedZero settings ≡ false
+pub reserved-refused : (e : Entry) (h : List Entry) (size : ℕ) (buffer own settings : List ℕ) → e .call ≡ initialize size buffer own settings → reservedZero settings ≡ false
     → (returned (answerOf h e .outcome) ≡ 1) × (tableOf (e ∷ h) (e .side) ≡ tableOf h (e .side))
-reserved-refused e h buffer own settings q z = (
-  ap (λ (c : Call). returned (left (tableOf h (e .side)) c .answer .outcome)) q ∙ reserved-number buffer own settings z,
-  table-same e h ∙ ap (tableAfter (tableOf h (e .side))) q ∙ reserved-table (tableOf h (e .side)) buffer own settings z,
+reserved-refused e h size buffer own settings q z = (
+  ap (λ (c : Call). returned (left (tableOf h (e .side)) c .answer .outcome)) q ∙ reserved-number (formOf size) buffer own settings z,
+  table-same e h ∙ ap (tableAfter (tableOf h (e .side))) q ∙ reserved-table (tableOf h (e .side)) size buffer own settings z,
 )

@@ -1,8 +1,8 @@
 -- Octets that a printer sent and that read as a status 0 Commit in a listed group are its record's Commit: group and stored commit are the run's own.
-use mathlib.Core.Path.{_≡_, refl, sym, ap, _∙_, subst}
-use mathlib.Core.Bool.{Bool, true, false, _||_}
+use mathlib.Core.Path.{_≡_, sym, ap, _∙_, subst}
+use mathlib.Core.Bool.{true, false}
 use mathlib.Core.List.{List, []}
-use Prim.Native.Nat.{ℕ, _+_, _<_}
+use Prim.Native.Nat.{ℕ, _+_}
 use native.Mathlib.Omega.{arith}
 use lib.Dec.{eqb, ltb}
 use lib.ListN.{length, take}
@@ -16,7 +16,7 @@ use Rattle.frame.specs.declared.Body.the-variants as body-is
 use Rattle.frame.proofs.Laws.{length-body}
 use Rattle.frame.proofs.Shapes.{commit-shape}
 use Rattle.frame.proofs.RoundTrip.{body-third, commit-back, token-request-no-offer, group-refusal-no-offer, confirm-no-offer}
-use Rattle.soundness.proofs.Laws.{listed-known}
+use Rattle.rule_laws.proofs.Keeps.{known-fits}
 use Rattle.record.specs.declared.Peer.{Peer}
 use Rattle.rules.specs.Book.{_is_, _isnt_}
 use Rattle.writer.specs.Writer.{recordCommit, recordConfirm, recordBody}
@@ -94,15 +94,6 @@ module _ (gs s : List ℕ) (g n : ℕ) (r : readBody gs s ≡ body-is.Commit g n
       either (λ (d : Drawn). d ≡ Octets s → FromRecord ls p q) (q is 1) (λ e. commit-from ls p q (one-not-two q e))
       (λ e. either (λ (d : Drawn). d ≡ Octets s → FromRecord ls p q) (q is 2) (λ e w. absurd (confirm-not p v w)) (λ e. outside-not))
 
-  known-small : (k : ℕ) → known k ≡ true → k < 65536
-  unfolding known
-  known-small k e = go (eqb k 19) (eqb k 20) refl refl e
-    where
-      go : (b c : Bool) → eqb k 19 ≡ b → eqb k 20 ≡ c → (b || c) ≡ true → k < 65536
-      go true c f h z = let y = eqb-true k 19 f in omega arith
-      go false true f h z = let y = eqb-true k 20 h in omega arith
-      go false false f h z = absurd (clash z refl)
-
   -- what is read is the record's own commit
   pub reads-own : (ls : List ℕ) (p : Peer) (q : ℕ) → Listing ls → FromRecord ls p q → Padded (p .run .group) (p .run .own)
       → _≡_ {A = Commit} (record { group = g; octets = stored (commitOf s g n) }) (ownCommit p)
@@ -112,7 +103,7 @@ module _ (gs s : List ℕ) (g n : ℕ) (r : readBody gs s ≡ body-is.Commit g n
       let t = take (p .run .toklen) (p .run .token) in
       let c = take (commitLength k) (p .run .own) in
       let h = commit-shape gs s g n r in
-      let w : g ≡ k = sym (h .group) ∙ ap groupOf (sym (F .octets)) ∙ body-third 1 0 k t c (known-small k (listed-known ls k (L .known) (F .listed))) in
+      let w : g ≡ k = sym (h .group) ∙ ap groupOf (sym (F .octets)) ∙ body-third 1 0 k t c (known-fits k (L .known k (F .listed))) in
       let z : length s ≡ 8 + length t + length c = ap length (sym (F .octets)) ∙ length-body 1 0 k t c in
       let y : length s ≡ 8 + n + commitLength k = h .total ∙ ap (λ (x : ℕ). 8 + n + commitLength x) w in
       let m : n ≡ length t = omega (arith, z, y, F .size) in

@@ -7,6 +7,7 @@ use lib.ListN.{length}
 use Rattle.protocol.specs.Model.{Side, A, B}
 use Rattle.octets.specs.Scan.{if_then_else_}
 use Rattle.octets.specs.Octets.{Bytes}
+use Rattle.record.specs.Layout.{formOf}
 use Rattle.answers.specs.declared.Outcome.{Outcome}
 use Rattle.answers.specs.declared.Outcome.the-variants as outcome
 use Rattle.answers.specs.declared.Answer.{Answer}
@@ -19,9 +20,11 @@ pub data Writing : Type 0 where
   writeParts : (sequence status group counter : ℕ) (token rest out : List ℕ) → Writing
   writeRecord : (address : List ℕ) (sequence : ℕ) (value out : List ℕ) → Writing
 
--- "Set up; start; kill; frame received; clock; write a frame", with all that is handed over, the settings as C does
+-- "Set up; start; kill; frame received; clock; write a frame", with all that is handed over, the settings as C does. A table may be a fresh one of either
+-- form: a set up is told by the record size of the form that it makes. This engine makes the one of 1,080 octets; the one of 864 was made before, and is
+-- served; of any other size there is none, and the set up is refused.
 pub data Call : Type 0 where
-  initialize : (buffer own settings : List ℕ) → Call
+  initialize : (size : ℕ) (buffer own settings : List ℕ) → Call
   initiate : (address : List ℕ) (time : ℕ) (fresh : List ℕ) → Call
   kill : (address : List ℕ) → Call
   receive : (address : List ℕ) (time : ℕ) (frame fresh expected : List ℕ) (verdict : ℕ) → Call
@@ -47,7 +50,7 @@ pub data WritingHanded : Writing → Type 0 where
       → WritingHanded (writeRecord address sequence value out)
 
 pub data CallHanded : Call → Type 0 where
-  an-initialize : {buffer own settings : List ℕ} → Bytes buffer → Octets 6 own → Octets 16 settings → CallHanded (initialize buffer own settings)
+  an-initialize : {size : ℕ} {buffer own settings : List ℕ} → Bytes buffer → Octets 6 own → Octets 16 settings → CallHanded (initialize size buffer own settings)
   an-initiate : {address : List ℕ} {time : ℕ} {fresh : List ℕ} → Octets 6 address → time < 2 ^ 32 → Bytes fresh → CallHanded (initiate address time fresh)
   a-kill : {address : List ℕ} → Octets 6 address → CallHanded (kill address)
   a-receive : {address : List ℕ} {time : ℕ} {frame fresh expected : List ℕ} {verdict : ℕ}
@@ -68,7 +71,7 @@ pub data AllHanded : List Entry → Type 0 where
 
 -- what a call answers and leaves. The writer's is no step, as a clock call with nothing due is none: no event, no frames, no group, no address
 abbrev pub left : List ℕ → Call → Left
-left t (initialize buffer own settings) = initializesFrom buffer own settings
+left t (initialize size buffer own settings) = initializesFrom (formOf size) buffer own settings
 left t (initiate address time fresh) = initiates t address time fresh
 left t (kill address) = kills t address
 left t (receive address time frame fresh expected verdict) = receives t address time frame fresh expected verdict
@@ -90,7 +93,7 @@ unfoldable pub done : List ℕ → Call → Bool
 done t c = isDone (left t c .answer .outcome)
 
 abbrev pub isInitialize : Call → Bool
-isInitialize (initialize buffer own settings) = true
+isInitialize (initialize size buffer own settings) = true
 isInitialize (initiate address time fresh) = false
 isInitialize (kill address) = false
 isInitialize (receive address time frame fresh expected verdict) = false
@@ -129,7 +132,7 @@ pub data Comes (e : Entry) (before : List Entry) : List Entry → Type 0 where
 -- ---- the list without the writer's calls
 
 abbrev pub isWrite : Call → Bool
-isWrite (initialize buffer own settings) = false
+isWrite (initialize size buffer own settings) = false
 isWrite (initiate address time fresh) = false
 isWrite (kill address) = false
 isWrite (receive address time frame fresh expected verdict) = false

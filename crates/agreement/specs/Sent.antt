@@ -18,7 +18,7 @@ use Rattle.agreement.specs.Story.{Pair, Link, unlinked, finished, Story,
 
 -- the token that the host expects, which a 76 carries
 abbrev pub expectedOf : Call → List ℕ
-expectedOf (initialize buffer own settings) = []
+expectedOf (initialize size buffer own settings) = []
 expectedOf (initiate address time fresh) = []
 expectedOf (kill address) = []
 expectedOf (receive address time frame fresh expected verdict) = expected

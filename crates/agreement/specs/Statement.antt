@@ -32,8 +32,8 @@ pub data Meets (s : Story) (p : Pair) : Type 0 where
 
 pub record Premises (own : Side → List ℕ) (h : List Entry) : Type 0 where
   -- "the two own addresses stay"
-  pub stay : (e : Entry) (before : List Entry) (buffer address settings : List ℕ) → Comes e before h → stepped before e ≡ true
-      → e .call ≡ initialize buffer address settings → address ≡ own (e .side)
+  pub stay : (e : Entry) (before : List Entry) (size : ℕ) (buffer address settings : List ℕ) → Comes e before h → stepped before e ≡ true
+      → e .call ≡ initialize size buffer address settings → address ≡ own (e .side)
   -- "no two calls of the whole list use the same group and commit"
   pub once : (e d : Entry) (before sooner : List Entry) (f : Commit) → Comes e before h → Comes d sooner before → Uses f before e → ¬ Uses f sooner d
   -- "From the other printer comes only what an earlier call of it sent to this one."

@@ -58,7 +58,7 @@ nothingYet =
 -- ---- what a call has; `groups` are the listed ones
 
 abbrev pub isStart : Call → Bool
-isStart (initialize buffer own settings) = false
+isStart (initialize size buffer own settings) = false
 isStart (initiate address time fresh) = true
 isStart (kill address) = false
 isStart (receive address time frame fresh expected verdict) = false
@@ -66,7 +66,7 @@ isStart (expire time) = false
 isStart (write w) = false
 
 abbrev pub isFrame : Call → Bool
-isFrame (initialize buffer own settings) = false
+isFrame (initialize size buffer own settings) = false
 isFrame (initiate address time fresh) = false
 isFrame (kill address) = false
 isFrame (receive address time frame fresh expected verdict) = true
@@ -75,7 +75,7 @@ isFrame (write w) = false
 
 -- the frame of a frame call, and the stock of a start or a frame call
 abbrev pub frameOf : Call → List ℕ
-frameOf (initialize buffer own settings) = []
+frameOf (initialize size buffer own settings) = []
 frameOf (initiate address time fresh) = []
 frameOf (kill address) = []
 frameOf (receive address time frame fresh expected verdict) = frame
@@ -83,7 +83,7 @@ frameOf (expire time) = []
 frameOf (write w) = []
 
 abbrev pub stockOf : Call → List ℕ
-stockOf (initialize buffer own settings) = []
+stockOf (initialize size buffer own settings) = []
 stockOf (initiate address time fresh) = fresh
 stockOf (kill address) = []
 stockOf (receive address time frame fresh expected verdict) = fresh
@@ -200,7 +200,7 @@ answered groups limit c r s =
 
 -- a kill or a set up ends run and link
 abbrev pub clears : Call → Bool
-clears (initialize buffer own settings) = true
+clears (initialize size buffer own settings) = true
 clears (initiate address time fresh) = false
 clears (kill address) = true
 clears (receive address time frame fresh expected verdict) = false

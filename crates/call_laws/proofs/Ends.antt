@@ -12,12 +12,13 @@ use Rattle.octets.specs.declared.Found.{Found}
 use Rattle.octets.specs.declared.Found.the-variants as found
 use Rattle.record.specs.declared.Settings.{Settings}
 use Rattle.soundness.specs.Soundness.{usable}
+use Rattle.record.specs.Layout.{formOf}
 use Rattle.table.specs.Table.{Table, decodeTable, encodeTable, slot, finds, lookBy, look, sound, entry, foundEntry}
 use Rattle.table.specs.Initial.{slotsFor, initialOk, initialTable, initial}
 use Rattle.table.specs.declared.Entry.{Entry}
 use Rattle.table.specs.declared.Entry.the-variants as entry-is
 use Rattle.table.proofs.Laws.{entry-at, entry-absent}
-use Rattle.table.proofs.Initial.{initial-ok-form, initial-recounted}
+use Rattle.table.proofs.Initial.{initial-ok-form, initial-served, initial-recounted}
 use Rattle.rules.specs.Book.{Step}
 use Rattle.rule_laws.proofs.Slots.{clock-seated}
 use Rattle.answers.specs.declared.Refusal.{Refusal}
@@ -102,16 +103,17 @@ said-not s a c e = let q : outcome.Done ≡ outcome.Refused c = ap (λ (r : Answ
 
 -- ---- set up leaves the fresh table, whose counts are true already, or the buffer as it was
 
-pub set-up-leaves : (t own : List ℕ) (s : Settings) → initializes t own s .table ≡ initial s own t
+-- in whichever form
+pub set-up-leaves : (size : ℕ) (t own : List ℕ) (s : Settings) → initializes (formOf size) t own s .table ≡ initial (formOf size) s own t
 unfolding initializes initial ends
-set-up-leaves t own s = go (initialOk s own (length t)) refl
+set-up-leaves size t own s = go (initialOk (formOf size) s own (length t)) refl
   where
-    go : (b : Bool) → initialOk s own (length t) ≡ b
-        → (if b then ends (quiet own) (initialTable s own (slotsFor (length t))) else refuse t why.Settings) .table
-        ≡ (if b then encodeTable (initialTable s own (slotsFor (length t))) else t)
-    go true e =
-        let g = initial-ok-form s own (length t) e in
-        ap encodeTable (initial-recounted s own (slotsFor (length t)) (g .settings) (g .owner) (g .some) (g .few))
+    fresh : Table
+    fresh = initialTable (formOf size) s own (slotsFor (formOf size) (length t))
+
+    go : (b : Bool) → initialOk (formOf size) s own (length t) ≡ b
+        → (if b then ends (quiet own) fresh else refuse t why.Settings) .table ≡ (if b then encodeTable fresh else t)
+    go true e = ap encodeTable (initial-recounted (formOf size) (initial-served size s own (length t) e) s own (length t) (initial-ok-form (formOf size) s own (length t) e))
     go false e = refl
 
 -- ---- the clock's call, where a record is due

@@ -25,7 +25,7 @@ use Rattle.record.specs.declared.Peer.{Peer}
 use Rattle.record.proofs.Laws.{form-width, form-groups}
 use Rattle.record.specs.Layout.{formIn, widthIn, groupsOf, noPeer, decodeHeader, headerOf, factoryLimit, periodOf, limitOf}
 use Rattle.soundness.specs.Soundness.{usable, highSync, commitOk}
-use Rattle.soundness.proofs.Laws.{Groups, SettingsForm, header-form, settings-form, header-groups, header-width, groups-length}
+use Rattle.soundness.proofs.Laws.{Groups, SettingsForm, header-form, settings-form, header-groups, header-width, header-count, listed-known, groups-length}
 use Rattle.table.specs.Table.{Table, decodeTable, slot, slots, belongs, finds, lookBy, look, sound, entry, foundEntry}
 use Rattle.table.specs.declared.Entry.{Entry}
 use Rattle.table.specs.declared.Entry.the-variants as entry-is
@@ -73,7 +73,7 @@ module _ (t : List ℕ) (s : sound t ≡ true) where
   unfolding decodeTable decodeHeader headerOf
   three-groups = refl
 
-  listed-groups : Groups 2 (decodeTable t .header .settings .count) (decodeTable t .header .settings .groups)
+  listed-groups : Groups (formIn (decodeTable t .header)) (decodeTable t .header .settings .count) (decodeTable t .header .settings .groups)
   listed-groups = header-groups _ (sound-header t s)
 
   pub groups-count : length (groupsIn t) ≡ decodeTable t .header .settings .count
@@ -90,8 +90,8 @@ module _ (t : List ℕ) (s : sound t ≡ true) where
   sound-lists =
       let g = listed-groups in
       let n = groups-count in
-      let m = g .few in
-      record { few = omega (arith, n, m); known = g .known; once = g .once }
+      let m = header-count _ (sound-header t s) in
+      record { few = omega (arith, n, m); known = listed-known _ (sound-header t s); once = g .once }
 
   -- the first group is a listed one
   pub first-listed : (0 < length (groupsIn t)) × (getD (groupsIn t) 0 0 ≡ getD (decodeTable t .header .settings .groups) 0 0)
@@ -114,10 +114,6 @@ same-clock t u s w time =
     let p : decodeTable t .header .settings .period ≡ decodeTable u .header .settings .period = settings t s .period ∙ sym (settings u w .period) in
     let l : decodeTable t .header .settings .limit ≡ decodeTable u .header .settings .limit = settings t s .limit ∙ sym (settings u w .limit) in
     λ i. record { time = time; period = periodOf (p i); limit = limitOf (l i) }
-
--- and of one width
-pub same-width : (t u : List ℕ) → sound t ≡ true → sound u ≡ true → widthIn (decodeTable t .header) ≡ widthIn (decodeTable u .header)
-same-width t u s w = header-width _ (sound-header t s) ∙ sym (header-width _ (sound-header u w))
 
 -- ---- what a call that goes on knows
 

@@ -15,6 +15,7 @@ use Rattle.octets.proofs.Scan.{clash, and-left}
 use Rattle.groups.specs.Groups.{freshOk}
 use Rattle.record.specs.declared.Peer.{Peer}
 use Rattle.record.specs.declared.Settings.{Settings}
+use Rattle.record.specs.declared.Form.{Form}
 use Rattle.record.specs.Layout.{widthIn, groupsOf, noPeer}
 use Rattle.soundness.specs.Soundness.{usable}
 use Rattle.table.specs.Table.{Table, decodeTable, slot, belongs, finds, lookBy, look, sound, entry}
@@ -35,7 +36,7 @@ use Rattle.answers.proofs.Ending.{Turned, denied, done, turn-ends}
 use Rattle.writer.specs.Writer.{writesParts, writesRecordBy, writesRecord}
 use Rattle.calls.specs.Calls.{termsOf, clockOf, initializes, admitStart, startTurn, startStep, initiates, killTurn, killStep, kills, admitFrame, frameTurn, frameStep, receives, dueSlot, clockStep, expires}
 use Rattle.call_laws.specs.Alike.{SameFor, Alike}
-use Rattle.call_laws.proofs.Good.{same-clock, same-width, initiate-good, kill-good, receive-good}
+use Rattle.call_laws.proofs.Good.{same-clock, initiate-good, kill-good, receive-good}
 use Rattle.call_laws.proofs.Ends.{Came, came, unsound, unusable, lacks, has, finish-answer, said-not, dueLeft, due-answer, takes, clock-ends}
 
 -- ---- both tables come to the same
@@ -150,16 +151,16 @@ module _ (t u a : List ℕ) (A : Alike t u a) where
   start-same time fresh f k n q =
       let e = terms-same t u a A f k n in
       let κ = same-clock t u (A .same .sound₁) (A .same .sound₂) time in
-      let w = same-width t u (A .same .sound₁) (A .same .sound₂) in
+      let w = A .same .width in
       rw (q, e, κ, w)
 
   start-paired : (time : ℕ) (fresh : List ℕ) (E F : Entry) → Met t u a E F
       → Paired (λ f. startStep (decodeTable t) f a time fresh) (λ f. startStep (decodeTable u) f a time fresh) (startTurn E t fresh) (startTurn F u fresh)
   unfolding startTurn lookBy
   start-paired time fresh E F neither = both-refuse
-  start-paired time fresh E F lack-both = admit-start-paired _ _ (decodeTable t) (decodeTable u) found.Nothing found.Nothing fresh (A .same .groups) (same-width t u (A .same .sound₁) (A .same .sound₂)) refl (start-same time fresh found.Nothing found.Nothing refl refl)
+  start-paired time fresh E F lack-both = admit-start-paired _ _ (decodeTable t) (decodeTable u) found.Nothing found.Nothing fresh (A .same .groups) (A .same .width) refl (start-same time fresh found.Nothing found.Nothing refl refl)
   start-paired time fresh E F (have-both {k} {j} q) =
-      admit-start-paired _ _ (decodeTable t) (decodeTable u) (found.At k) (found.At j) fresh (A .same .groups) (same-width t u (A .same .sound₁) (A .same .sound₂)) q (start-same time fresh (found.At k) (found.At j) refl q)
+      admit-start-paired _ _ (decodeTable t) (decodeTable u) (found.At k) (found.At j) fresh (A .same .groups) (A .same .width) q (start-same time fresh (found.At k) (found.At j) refl q)
 
 pub initiate-isolated : (t u a : List ℕ) (time : ℕ) (fresh : List ℕ) → Bytes t → Bytes u → length a ≡ 6 → Bytes a → time < 2 ^ 32 → Bytes fresh → Alike t u a
     → Isolated a (initiates t a time fresh) (initiates u a time fresh)
@@ -204,7 +205,7 @@ module _ (t u a : List ℕ) (A : Alike t u a) (time : ℕ) (frame fresh expected
       let e = terms-same t u a A f k n in
       let κ = same-clock t u (A .same .sound₁) (A .same .sound₂) time in
       let g = A .same .groups in
-      let w = same-width t u (A .same .sound₁) (A .same .sound₂) in
+      let w = A .same .width in
       rw (q, e, κ, g, w)
 
   frame-paired : (E F : Entry) → Met t u a E F
@@ -213,10 +214,10 @@ module _ (t u a : List ℕ) (A : Alike t u a) (time : ℕ) (frame fresh expected
   unfolding frameTurn lookBy
   frame-paired E F neither = both-refuse
   frame-paired E F lack-both =
-      admit-frame-paired _ _ (decodeTable t) (decodeTable u) found.Nothing found.Nothing frame fresh expected verdict (A .same .groups) (same-width t u (A .same .sound₁) (A .same .sound₂))
+      admit-frame-paired _ _ (decodeTable t) (decodeTable u) found.Nothing found.Nothing frame fresh expected verdict (A .same .groups) (A .same .width)
       (frame-same found.Nothing found.Nothing refl refl)
   frame-paired E F (have-both {k} {j} q) =
-      admit-frame-paired _ _ (decodeTable t) (decodeTable u) (found.At k) (found.At j) frame fresh expected verdict (A .same .groups) (same-width t u (A .same .sound₁) (A .same .sound₂))
+      admit-frame-paired _ _ (decodeTable t) (decodeTable u) (found.At k) (found.At j) frame fresh expected verdict (A .same .groups) (A .same .width)
       (frame-same (found.At k) (found.At j) refl q)
 
 pub receive-isolated : (t u a : List ℕ) (time : ℕ) (frame fresh expected : List ℕ) (verdict : ℕ) → Bytes t → Bytes u → length a ≡ 6 → Bytes a → time < 2 ^ 32
@@ -260,18 +261,18 @@ expire-isolated t u time k j bt bu ht st su et eu q =
 
 -- ---- Set up looks at no octet of what the buffer held
 
-pub initialize-isolated : (t u own : List ℕ) (s : Settings) → length t ≡ length u → initializes t own s .answer ≡ initializes u own s .answer
+pub initialize-isolated : (f : Form) (t u own : List ℕ) (s : Settings) → length t ≡ length u → initializes f t own s .answer ≡ initializes f u own s .answer
 unfolding initializes ends
-initialize-isolated t u own s e = rw e (go (initialOk s own (length u)))
+initialize-isolated f t u own s e = rw e (go (initialOk f s own (length u)))
   where
-    go : (b : Bool) → (if b then ends (quiet own) (initialTable s own (slotsFor (length u))) else refuse t why.Settings) .answer
-        ≡ (if b then ends (quiet own) (initialTable s own (slotsFor (length u))) else refuse u why.Settings) .answer
+    go : (b : Bool) → (if b then ends (quiet own) (initialTable f s own (slotsFor f (length u))) else refuse t why.Settings) .answer
+        ≡ (if b then ends (quiet own) (initialTable f s own (slotsFor f (length u))) else refuse u why.Settings) .answer
     go true = refl
     go false = refl
 
-pub initialize-blind : (t u own : List ℕ) (s : Settings) → length t ≡ length u → initialOk s own (length t) ≡ true → initializes t own s .table ≡ initializes u own s .table
+pub initialize-blind : (f : Form) (t u own : List ℕ) (s : Settings) → length t ≡ length u → initialOk f s own (length t) ≡ true → initializes f t own s .table ≡ initializes f u own s .table
 unfolding initializes
-initialize-blind t u own s e w = let v : initialOk s own (length u) ≡ true = subst (λ (n : ℕ). initialOk s own n ≡ true) e w in rw (w, v, e)
+initialize-blind f t u own s e w = let v : initialOk f s own (length u) ≡ true = subst (λ (n : ℕ). initialOk f s own n ≡ true) e w in rw (w, v, e)
 
 -- ---- the writers
 

@@ -14,13 +14,14 @@ use Rattle.octets.specs.declared.Found.the-variants as found
 use Rattle.octets.proofs.Laws.{part-part}
 use Rattle.octets.proofs.Scan.{clash, cases, and-right}
 use Rattle.octets.proofs.Tests.{same-address}
-use Rattle.record.specs.Layout.{groupsOf, decodeHeader, headerOf, headerWidths, noPeer}
+use Rattle.record.specs.declared.Form.{Form}
+use Rattle.record.specs.Layout.{formOf, widthIn, groupsOf, decodeHeader, headerOf, headerWidths, noPeer}
 use Rattle.record.specs.Codec.{cut}
 use Rattle.record.specs.declared.Settings.{Settings}
 use Rattle.table.specs.Table.{Table, decodeTable, slot, inUse, belongs, finds, lookBy, look, sound}
 use Rattle.table.specs.Initial.{slotsFor, initialHeader, initialTable, initialOk}
 use Rattle.table.proofs.Laws.{entry-at}
-use Rattle.table.proofs.Initial.{FitSettings, initial-slot, initial-decoded}
+use Rattle.table.proofs.Initial.{FitSettings, initial-slot, initial-served, initial-decoded}
 use Rattle.writer.specs.Writer.{writesRecord}
 use Rattle.calls.specs.Calls.{crowded, full, initializes, dueSlot, expires}
 use Rattle.call_laws.specs.Alike.{SameFor, Alike}
@@ -38,9 +39,10 @@ record Stays (t u : List ℕ) : Type 0 where
   pub bytes : Bytes u
   pub own : decodeTable u .header .own ≡ decodeTable t .header .own
   pub groups : groupsOf (decodeTable u .header) ≡ groupsOf (decodeTable t .header)
+  pub width : widthIn (decodeTable u .header) ≡ widthIn (decodeTable t .header)
 
 stays-itself : (t : List ℕ) → Bytes t → sound t ≡ true → Stays t t
-stays-itself t b s = record { sound = s; bytes = b; own = refl; groups = refl }
+stays-itself t b s = record { sound = s; bytes = b; own = refl; groups = refl; width = refl }
 
 module _ (t b u : List ℕ) (K : Keeping t b u) where
   header-part : (at n : ℕ) → at + n ≤ 26 → part u (6 + at) n ≡ part t (6 + at) n
@@ -59,8 +61,12 @@ module _ (t b u : List ℕ) (K : Keeping t b u) where
       let i : part u 30 2 ≡ part t 30 2 = header-part 24 2 (omega arith) in
       rw (c, g, h, i)
 
+  width-kept : widthIn (decodeTable u .header) ≡ widthIn (decodeTable t .header)
+  unfolding decodeTable decodeHeader headerOf cut headerWidths
+  width-kept = let e : part u 6 2 ≡ part t 6 2 = header-part 0 2 (omega arith) in rw e
+
   keeping-stays : Stays t u
-  keeping-stays = record { sound = K .table .sound; bytes = K .bytes; own = own-kept; groups = groups-kept }
+  keeping-stays = record { sound = K .table .sound; bytes = K .bytes; own = own-kept; groups = groups-kept; width = width-kept }
 
 call-stays : (t : List ℕ) (c : PeerCall) → Bytes t → sound t ≡ true → Handed c → Stays t (left t c .table)
 call-stays t (initiate address time fresh) b s (an-initiate la ba ht bf) = keeping-stays t address _ (initiate-keeps t address time fresh b la ba ht bf s)
@@ -79,7 +85,7 @@ after-stays t [] b s none = stays-itself t b s
 after-stays t (c ∷ cs) b s (more h hs) =
     let R = after-stays t cs b s hs in
     let C = call-stays (after t cs) c (R .bytes) (R .sound) h in
-    record { sound = C .sound; bytes = C .bytes; own = C .own ∙ R .own; groups = C .groups ∙ R .groups }
+    record { sound = C .sound; bytes = C .bytes; own = C .own ∙ R .own; groups = C .groups ∙ R .groups; width = C .width ∙ R .width }
 
 -- ---- a call about another address leaves this one its record
 
@@ -171,7 +177,14 @@ same-cons e = (cc, cc)
 -- tables that are the same for the address stay so where it finds the same record in what is left of them
 moved : (t u v w a : List ℕ) → SameFor t u a → Stays t v → Stays u w → look (decodeTable v) a ≡ look (decodeTable w) a → SameFor v w a
 moved t u v w a S X Y e =
-    record { sound₁ = X .sound; sound₂ = Y .sound; own = X .own ∙ S .own ∙ sym (Y .own); groups = X .groups ∙ S .groups ∙ sym (Y .groups); peer = e }
+    record {
+      sound₁ = X .sound;
+      sound₂ = Y .sound;
+      own = X .own ∙ S .own ∙ sym (Y .own);
+      groups = X .groups ∙ S .groups ∙ sym (Y .groups);
+      width = X .width ∙ S .width ∙ sym (Y .width);
+      peer = e;
+    }
 
 -- ---- the theorem
 
@@ -262,34 +275,39 @@ pub others-alike : (t a : List ℕ) (cs : List PeerCall) → Bytes t → length 
     → Alike t (after t cs) a
 unfolding reaches after
 others-alike t a cs b la ba s hs e c f =
-    let S : SameFor t t a = record { sound₁ = s; sound₂ = s; own = refl; groups = refl; peer = refl } in
+    let S : SameFor t t a = record { sound₁ = s; sound₂ = s; own = refl; groups = refl; width = refl; peer = refl } in
     record { same = isolation t t a b b la ba S [] cs none hs (sym e) .left; crowded = c; full = f }
 
--- ---- where the lists begin: after two set ups with the same own address and groups the tables are the same for every address, whatever the buffers held, their
+-- ---- where the lists begin: after two set ups of one form with the same own address and groups the tables are the same for every address, whatever the buffers held, their
 -- numbers of slots and their thresholds
 
-initial-look : (s : Settings) (own a : List ℕ) (n : ℕ) → look (initialTable s own n) a ≡ noPeer
+initial-look : (f : Form) (s : Settings) (own a : List ℕ) (n : ℕ) → look (initialTable f s own n) a ≡ noPeer
 unfolding look lookBy
-initial-look s own a n = go (finds (initialTable s own n) a)
+initial-look f s own a n = go (finds (initialTable f s own n) a)
   where
-    go : (f : Found) → lookBy (initialTable s own n) f ≡ noPeer
-    go (found.At k) = initial-slot s own n k
+    go : (x : Found) → lookBy (initialTable f s own n) x ≡ noPeer
+    go (found.At k) = initial-slot f s own n k
     go found.Nothing = refl
 
-initialized : (t own : List ℕ) (s : Settings) → FitSettings s own → initialOk s own (length t) ≡ true
-    → decodeTable (initializes t own s .table) ≡ initialTable s own (slotsFor (length t))
-initialized t own s f e = ap decodeTable (set-up-leaves t own s) ∙ initial-decoded s own t f e
+module _ (size : ℕ) where
+  abbrev form : Form
+  form = formOf size
 
-pub initialize-same : (t u own a : List ℕ) (s r : Settings) → FitSettings s own → FitSettings r own → s .count ≡ r .count → s .groups ≡ r .groups
-    → initialOk s own (length t) ≡ true → initialOk r own (length u) ≡ true → SameFor (initializes t own s .table) (initializes u own r .table) a
-unfolding initialTable initialHeader
-initialize-same t u own a s r f g c q e i =
-    let x = initialized t own s f e in
-    let y = initialized u own r g i in
-    record {
-      sound₁ = initialize-makes t own s f e .sound;
-      sound₂ = initialize-makes u own r g i .sound;
-      own = ap (λ (T : Table). T .header .own) x ∙ sym (ap (λ (T : Table). T .header .own) y);
-      groups = ap (λ (T : Table). groupsOf (T .header)) x ∙ (rw (c, q)) ∙ sym (ap (λ (T : Table). groupsOf (T .header)) y);
-      peer = ap (λ (T : Table). look T a) x ∙ initial-look s own a _ ∙ sym (ap (λ (T : Table). look T a) y ∙ initial-look r own a _);
-    }
+  initialized : (t own : List ℕ) (s : Settings) → FitSettings s own → initialOk form s own (length t) ≡ true
+      → decodeTable (initializes form t own s .table) ≡ initialTable form s own (slotsFor form (length t))
+  initialized t own s f e = ap decodeTable (set-up-leaves size t own s) ∙ initial-decoded form (initial-served size s own (length t) e) s own t f e
+
+  pub initialize-same : (t u own a : List ℕ) (s r : Settings) → FitSettings s own → FitSettings r own → s .count ≡ r .count → s .groups ≡ r .groups
+      → initialOk form s own (length t) ≡ true → initialOk form r own (length u) ≡ true → SameFor (initializes form t own s .table) (initializes form u own r .table) a
+  unfolding initialTable initialHeader
+  initialize-same t u own a s r f g c q e i =
+      let x = initialized t own s f e in
+      let y = initialized u own r g i in
+      record {
+        sound₁ = initialize-makes size t own s f e .sound;
+        sound₂ = initialize-makes size u own r g i .sound;
+        own = ap (λ (T : Table). T .header .own) x ∙ sym (ap (λ (T : Table). T .header .own) y);
+        groups = ap (λ (T : Table). groupsOf (T .header)) x ∙ (rw (c, q)) ∙ sym (ap (λ (T : Table). groupsOf (T .header)) y);
+        width = ap (λ (T : Table). widthIn (T .header)) x ∙ sym (ap (λ (T : Table). widthIn (T .header)) y);
+        peer = ap (λ (T : Table). look T a) x ∙ initial-look form s own a _ ∙ sym (ap (λ (T : Table). look T a) y ∙ initial-look form r own a _);
+      }

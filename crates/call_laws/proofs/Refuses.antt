@@ -16,6 +16,7 @@ use Rattle.groups.specs.Groups.{freshOk}
 use Rattle.frame.specs.Writing.{Drawn, Octets, Outside, partsBody, written, leaves}
 use Rattle.frame.specs.declared.Written.the-variants as written-is
 use Rattle.record.specs.declared.Settings.{Settings}
+use Rattle.record.specs.declared.Form.{Form}
 use Rattle.record.specs.Layout.{widthIn, groupsOf}
 use Rattle.table.specs.Table.{Table, decodeTable, slot, finds, lookBy, look, sound, entry}
 use Rattle.table.specs.Initial.{slotsFor, initialOk, initialTable}
@@ -132,11 +133,11 @@ exact f r o cs x e z w q =
 
 -- ---- Set up
 
-pub initialize-refuses : (t own : List ℕ) (s : Settings) → initializes t own s .answer .outcome ≡ firstCause outcome.Refused (setUpCauses t own s) outcome.Done
+pub initialize-refuses : (f : Form) (t own : List ℕ) (s : Settings) → initializes f t own s .answer .outcome ≡ firstCause outcome.Refused (setUpCauses f t own s) outcome.Done
 unfolding initializes firstCause setUpCauses ends quiet refused
-initialize-refuses t own s = go (initialOk s own (length t))
+initialize-refuses f t own s = go (initialOk f s own (length t))
   where
-    go : (b : Bool) → (if b then ends (quiet own) (initialTable s own (slotsFor (length t))) else refuse t why.Settings) .answer .outcome ≡ (if not b then outcome.Refused why.Settings else outcome.Done)
+    go : (b : Bool) → (if b then ends (quiet own) (initialTable f s own (slotsFor f (length t))) else refuse t why.Settings) .answer .outcome ≡ (if not b then outcome.Refused why.Settings else outcome.Done)
     go true = refl
     go false = refl
 
@@ -277,12 +278,12 @@ expire-exact t time =
 
 -- ---- Set up
 
-set-up-rises : (t own : List ℕ) (s : Settings) → rising 0 (setUpCauses t own s) ≡ true
+set-up-rises : (f : Form) (t own : List ℕ) (s : Settings) → rising 0 (setUpCauses f t own s) ≡ true
 unfolding rising setUpCauses
-set-up-rises t own s = refl
+set-up-rises f t own s = refl
 
-pub initialize-exact : (t own : List ℕ) (s : Settings) → Exact (returned (initializes t own s .answer .outcome)) (setUpCauses t own s)
-initialize-exact t own s = exact returned outcome.Refused outcome.Done (setUpCauses t own s) _ (λ c. refl) refl (set-up-rises t own s) (initialize-refuses t own s)
+pub initialize-exact : (f : Form) (t own : List ℕ) (s : Settings) → Exact (returned (initializes f t own s .answer .outcome)) (setUpCauses f t own s)
+initialize-exact f t own s = exact returned outcome.Refused outcome.Done (setUpCauses f t own s) _ (λ c. refl) refl (set-up-rises f t own s) (initialize-refuses f t own s)
 
 -- ---- the writers
 
@@ -370,12 +371,12 @@ refused-turn (Go f) g t a c e = go (g f .refused) (seating (decodeTable t) f) e
     go false (found.At k) q = let z : _≡_ {A = ℕ} 0 1 = cc in absurd (omega arith)
     go false found.Nothing q = let z : _≡_ {A = ℕ} 0 1 = cc in absurd (omega arith)
 
-pub initialize-refused : (t own : List ℕ) (s : Settings) (c : Refusal) → initializes t own s .answer .outcome ≡ outcome.Refused c → initializes t own s .table ≡ t
+pub initialize-refused : (f : Form) (t own : List ℕ) (s : Settings) (c : Refusal) → initializes f t own s .answer .outcome ≡ outcome.Refused c → initializes f t own s .table ≡ t
 unfolding initializes ends quiet
-initialize-refused t own s c e = go (initialOk s own (length t)) e
+initialize-refused f t own s c e = go (initialOk f s own (length t)) e
   where
-    go : (b : Bool) → (if b then ends (quiet own) (initialTable s own (slotsFor (length t))) else refuse t why.Settings) .answer .outcome ≡ outcome.Refused c
-        → (if b then ends (quiet own) (initialTable s own (slotsFor (length t))) else refuse t why.Settings) .table ≡ t
+    go : (b : Bool) → (if b then ends (quiet own) (initialTable f s own (slotsFor f (length t))) else refuse t why.Settings) .answer .outcome ≡ outcome.Refused c
+        → (if b then ends (quiet own) (initialTable f s own (slotsFor f (length t))) else refuse t why.Settings) .table ≡ t
     go true q = let z : _≡_ {A = ℕ} 0 1 = cc in absurd (omega arith)
     go false q = refl
 

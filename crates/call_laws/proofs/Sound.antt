@@ -15,14 +15,14 @@ use Rattle.octets.specs.declared.Found.the-variants as found
 use Rattle.octets.proofs.Scan.{clash, cases}
 use Rattle.record.specs.declared.Counts.{Counts}
 use Rattle.record.specs.declared.Settings.{Settings}
-use Rattle.record.specs.Layout.{recordSize, recordAt}
+use Rattle.record.specs.Layout.{recordSize, recordAt, formOf}
 use Rattle.record.proofs.Laws.{shape-peer, record-below}
 use Rattle.table.specs.Table.{widthOf, decodeTable, slot, slots, inUse, belongs, look, placed, sound}
 use Rattle.table.specs.Initial.{initialOk}
 use Rattle.table.proofs.Laws.{entry-at, found-below, sound-whole, free-below-law}
 use Rattle.table.proofs.Kept.{sound-form}
 use Rattle.table.proofs.Octets.{after-header, placed-outside}
-use Rattle.table.proofs.Initial.{FitSettings, initial-sound, initial-refused}
+use Rattle.table.proofs.Initial.{FitSettings, initial-served, initial-sound, initial-refused}
 use Rattle.rules.specs.Book.{Step}
 use Rattle.answers.specs.declared.Refusal.{Refusal}
 use Rattle.answers.specs.declared.Refusal.the-variants as why
@@ -177,12 +177,14 @@ expire-sound t time b ht s = go (dueSlot (decodeTable t) time) refl
     go found.Nothing e = subst SoundTable (sym (expire-keeps-none t time b e)) (sound-table t s)
 
 -- a set up that is not refused makes a sound table, whatever the buffer held; one that is refused leaves the table
-pub initialize-makes : (t own : List ℕ) (s : Settings) → FitSettings s own → initialOk s own (length t) ≡ true → SoundTable (initializes t own s .table)
-initialize-makes t own s f e = subst SoundTable (sym (set-up-leaves t own s)) (sound-table _ (initial-sound s own t f e))
+pub initialize-makes : (size : ℕ) (t own : List ℕ) (s : Settings) → FitSettings s own → initialOk (formOf size) s own (length t) ≡ true
+    → SoundTable (initializes (formOf size) t own s .table)
+initialize-makes size t own s f e =
+    subst SoundTable (sym (set-up-leaves size t own s)) (sound-table _ (initial-sound (formOf size) (initial-served size s own (length t) e) s own t f e))
 
-pub initialize-sound : (t own : List ℕ) (s : Settings) → FitSettings s own → sound t ≡ true → SoundTable (initializes t own s .table)
-initialize-sound t own s f w = go (initialOk s own (length t)) refl
+pub initialize-sound : (size : ℕ) (t own : List ℕ) (s : Settings) → FitSettings s own → sound t ≡ true → SoundTable (initializes (formOf size) t own s .table)
+initialize-sound size t own s f w = go (initialOk (formOf size) s own (length t)) refl
   where
-    go : (x : Bool) → initialOk s own (length t) ≡ x → SoundTable (initializes t own s .table)
-    go true e = initialize-makes t own s f e
-    go false e = subst SoundTable (sym (set-up-leaves t own s ∙ initial-refused s own t e)) (sound-table t w)
+    go : (x : Bool) → initialOk (formOf size) s own (length t) ≡ x → SoundTable (initializes (formOf size) t own s .table)
+    go true e = initialize-makes size t own s f e
+    go false e = subst SoundTable (sym (set-up-leaves size t own s ∙ initial-refused (formOf size) s own t e)) (sound-table t w)

@@ -7,6 +7,7 @@ use lib.ListN.{length}
 use Rattle.octets.specs.Scan.{if_then_else_, isNothing}
 use Rattle.groups.specs.Groups.{freshOk}
 use Rattle.frame.specs.Writing.{Drawn, Octets, Outside}
+use Rattle.record.specs.declared.Form.{Form}
 use Rattle.record.specs.declared.Settings.{Settings}
 use Rattle.record.specs.Layout.{widthIn, groupsOf}
 use Rattle.soundness.specs.Soundness.{usable}
@@ -51,8 +52,8 @@ absent T a = isNothing (finds T a)
 
 -- ---- the causes of each call
 
-unfoldable pub setUpCauses : List ℕ → List ℕ → Settings → List Cause
-setUpCauses t own s = cause why.Settings (not (initialOk s own (length t))) ∷ []
+unfoldable pub setUpCauses : Form → List ℕ → List ℕ → Settings → List Cause
+setUpCauses f t own s = cause why.Settings (not (initialOk f s own (length t))) ∷ []
 
 unfoldable pub startCauses : List ℕ → List ℕ → List ℕ → List Cause
 startCauses t a fresh =

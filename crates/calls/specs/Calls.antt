@@ -9,6 +9,7 @@ use Rattle.octets.specs.Scan.{if_then_else_, isNothing, firstBelow}
 use Rattle.octets.specs.declared.Found.{Found}
 use Rattle.octets.specs.declared.Found.the-variants as found
 use Rattle.groups.specs.Groups.{freshOf, freshOk}
+use Rattle.record.specs.declared.Form.{Form}
 use Rattle.record.specs.declared.Header.{Header}
 use Rattle.record.specs.declared.Settings.{Settings}
 use Rattle.record.specs.Layout.{widthIn, groupsOf, noPeer, periodOf, limitOf}
@@ -59,14 +60,15 @@ noToken = replicate 32 0
 
 -- ---- Set up (also clears): "settings, own address or length wrong at set up" 1
 
-unfoldable pub initializes : List ℕ → List ℕ → Settings → Left
-initializes t own s =
-    if initialOk s own (length t) then ends (quiet own) (initialTable s own (slotsFor (length t)))
+-- of a form f: this engine makes the one that is `made`
+unfoldable pub initializes : Form → List ℕ → List ℕ → Settings → Left
+initializes f t own s =
+    if initialOk f s own (length t) then ends (quiet own) (initialTable f s own (slotsFor f (length t)))
     else refuse t why.Settings
 
 -- the same from the settings' 16 octets, as C hands them over: a reserved octet that is not 0 is 1 too
-unfoldable pub initializesFrom : List ℕ → List ℕ → List ℕ → Left
-initializesFrom t own s = if reservedZero s then initializes t own (settingsOf s) else refuse t why.Settings
+unfoldable pub initializesFrom : Form → List ℕ → List ℕ → List ℕ → Left
+initializesFrom f t own s = if reservedZero s then initializes f t own (settingsOf s) else refuse t why.Settings
 
 -- ---- Start: causes 2, 3, 4, 8, 9
 

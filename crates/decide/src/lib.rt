@@ -18,7 +18,7 @@ use rules::Given;
 
 // The scalar of a group is that of the link's peer.
 fn same_scalar(s: &[u8], w: usize, heard: &[u8], group: u16) -> bool
-    requires { ⌜ (length (now s) ≡ recordSize w) × ((w ≤ width) × (48 ≤ w)) ⌝ }
+    requires { ⌜ (length (now s) ≡ recordSize w) × ((w ≤ width) × (66 ≤ w)) ⌝ }
     ensures { λ x. ⌜ x ≡ same (part (stored (now (heard .entry))) 0 (scalarLength group)) (part (decodePeer w (now (s .entry)) .link .peer) 0 (scalarLength group)) ⌝ }
 {
     let n = groups::scalar_length(group);
@@ -28,7 +28,7 @@ fn same_scalar(s: &[u8], w: usize, heard: &[u8], group: u16) -> bool
 
 // "finished link with that group and peer scalar"
 fn is_linked(s: &[u8], w: usize, v: View, body: &[u8]) -> bool
-    requires { ⌜ (length (now s) ≡ recordSize w) × ((w ≤ width) × (48 ≤ w)) ⌝ }
+    requires { ⌜ (length (now s) ≡ recordSize w) × ((w ≤ width) × (66 ≤ w)) ⌝ }
     ensures { λ x. ⌜ x ≡ linkedWith (decodePeer w (now (s .entry)) .link) (messageOf (now (body .entry)) v) ⌝ }
 {
     let finished = record::finished_of(s, w);

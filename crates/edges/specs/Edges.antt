@@ -14,6 +14,7 @@ use Rattle.record.specs.declared.Peer.{Peer}
 use Rattle.record.specs.declared.Form.{Form}
 use Rattle.record.specs.Layout.{formOf, groupsOf, noRun, noLink, noPeer}
 use Rattle.table.specs.Table.{Table, placed, slot, lookBy}
+use Rattle.table.specs.Initial.{slotsFor, lengthOk}
 use Rattle.rules.specs.declared.Act.{Act}
 use Rattle.rules.specs.declared.Act.the-variants.{Drop, RefuseGroup, AskToken, NoSlot, AnswerCommit, ConfirmCommit, ReplyToken, SwitchGroup, RepeatCommit, RepeatRefusal, ResendBoth, ConfirmAgain, GiveUp, Accept, HearAgain, HearLast, EndLink, Begin}
 use Rattle.rules.specs.declared.Frame.{Frame}
@@ -24,10 +25,11 @@ use Rattle.message.specs.declared.View.{View}
 use Rattle.message.specs.View.{view, message}
 use Rattle.answers.specs.declared.Turn.{Turn}
 use Rattle.answers.specs.declared.Turn.the-variants as turn
+use Rattle.answers.specs.declared.Refusal.the-variants as why
 use Rattle.answers.specs.Answers.{number}
 use Rattle.calls.specs.Calls.{termsOf, clockOf, brings, freshIn, admitFrame, startStep, frameStep, dueSlot, clockStep}
 
--- ---- tables: eight slots, groups 19 and 20, threshold 5
+-- ---- tables: eight slots, threshold 5; of the form of 864 octets with groups 19 and 20, unless said
 
 -- the address of a peer, and our own
 abbrev pub address : ℕ → List ℕ
@@ -36,18 +38,25 @@ address n = 2 ∷ 0 ∷ 0 ∷ 0 ∷ 0 ∷ n ∷ []
 abbrev pub own : List ℕ
 own = address 255
 
-abbrev pub empty : Table
-empty =
+abbrev pub emptyOf : ℕ → ℕ → List ℕ → Table
+emptyOf size count groups =
     record {
       header = record {
-        geometry = record { slots = 8; size = 864; first = 32 };
+        geometry = record { slots = 8; size = size; first = 32 };
         counts = record { used = 0; opened = 0; spare = 0 };
         spare = 0;
         own = own;
-        settings = record { count = 2; groups = 19 ∷ 20 ∷ 0 ∷ []; threshold = 5; period = 0; limit = 0 };
+        settings = record { count = count; groups = groups; threshold = 5; period = 0; limit = 0 };
       };
       peers = replicate 8 noPeer;
     }
+
+abbrev pub empty : Table
+empty = emptyOf 864 2 (19 ∷ 20 ∷ 0 ∷ [])
+
+-- of the form of 1,080 octets, with all three groups
+abbrev pub wideEmpty : Table
+wideEmpty = emptyOf 1080 3 (21 ∷ 20 ∷ 19 ∷ [])
 
 -- a run in group 19 in a state, Committed or Confirmed, with a Sync: Sc is Sync + 1 in Confirmed, else 0
 abbrev pub scOf : ℕ → ℕ → ℕ
@@ -103,12 +112,18 @@ withOpen (suc n) = placed (withOpen n) n (running n 1 0)
 abbrev pub stock : List ℕ
 stock = replicate 288 0
 
+abbrev pub wideStock : List ℕ
+wideStock = replicate 594 0
+
 abbrev pub expected : List ℕ
 expected = replicate 32 9
 
--- a status 0 Commit in group 19 of so many octets, and a status 0 Confirm of so many
+-- a status 0 Commit in a group with so many octets behind it, in group 19, and a status 0 Confirm
+abbrev pub offerOctets : ℕ → ℕ → List ℕ
+offerOctets group rest = head 1 0 group ++ replicate rest 7
+
 abbrev pub commitOctets : ℕ → List ℕ
-commitOctets rest = head 1 0 19 ++ replicate rest 7
+commitOctets rest = offerOctets 19 rest
 
 abbrev pub confirmOctets : ℕ → ℕ → List ℕ
 confirmOctets counter rest = head 2 0 counter ++ replicate rest 7
@@ -152,9 +167,13 @@ abbrev pub slotNumbers : Found → List ℕ
 slotNumbers found.Nothing = []
 slotNumbers (found.At k) = k ∷ []
 
--- record size, width of a stored commit, the most slots, the most groups
+-- record size, the most slots, the most groups, and, if there are any, the width of a stored commit
 abbrev pub formNumbers : Form → List ℕ
-formNumbers f = f .size ∷ f .width ∷ f .slots ∷ f .groups ∷ []
+formNumbers f = f .size ∷ f .slots ∷ f .groups ∷ (if f .slots is 0 then [] else f .width ∷ [])
+
+-- the slots that a set up of a form makes in a buffer of a length, or the refusal's number
+abbrev pub setUpNumbers : Form → ℕ → List ℕ
+setUpNumbers f length = if lengthOk f length then 0 ∷ slotsFor f length ∷ [] else number why.Settings ∷ []
 
 -- the acts of the book, told apart
 unfoldable pub named : Act → ℕ
@@ -184,8 +203,13 @@ pub data Question : Type 0 where
   Received : List ℕ → Question
   -- a frame call's test of a stock of so many octets: 4, or the view of the Commit read
   Stocked : ℕ → Question
+  -- the same two of a table of the form of 1,080 octets with all three groups
+  ReceivedWide : List ℕ → Question
+  StockedWide : ℕ → Question
   -- the form that a record size tells
   Formed : ℕ → Question
+  -- what a set up of the form that a record size tells makes in a buffer of a length
+  SetUp : ℕ → ℕ → Question
   -- the t0 deadline of a start at a reading
   Deadline : ℕ → Question
   -- started at a reading, the slot that a clock call at another reading takes
@@ -200,20 +224,26 @@ pub data Question : Type 0 where
   Requested : ℕ → ℕ → Question
   -- with so many Open, a Commit without a token from a new peer: the act, stock group used, frames
   Offered : ℕ → Question
+  -- a frame from a new peer at a printer without group 21, and at one with it: the act, stock group used, frames
+  Without21 : List ℕ → Question
+  With21 : List ℕ → Question
 
--- a frame call's tests on the empty table
-abbrev pub received : List ℕ → List ℕ → List ℕ
-received s fresh = admitted (admitFrame empty found.Nothing s fresh expected 1) (view (groupsOf (empty .header)) s)
+-- a frame call's tests on an empty table
+abbrev pub received : Table → List ℕ → List ℕ → List ℕ
+received T s fresh = admitted (admitFrame T found.Nothing s fresh expected 1) (view (groupsOf (T .header)) s)
 
 -- a start on the empty table
 abbrev pub started : ℕ → Peer
 started time = startStep empty found.Nothing (address 1) time stock .peer
 
 -- the act that the ladder names for a frame, heard at a reading from an address whose record is at f
-abbrev pub heard : Table → Found → List ℕ → ℕ → List ℕ → ℕ → Act
-heard T f a time frame verdict =
-    frameAct (termsOf T f) (brings a (clockOf (T .header) time) (freshIn (T .header) stock) expected (verdict is 1)) (lookBy T f)
+abbrev pub heardWith : List ℕ → Table → Found → List ℕ → ℕ → List ℕ → ℕ → Act
+heardWith fresh T f a time frame verdict =
+    frameAct (termsOf T f) (brings a (clockOf (T .header) time) (freshIn (T .header) fresh) expected (verdict is 1)) (lookBy T f)
     (message (groupsOf (T .header)) frame)
+
+abbrev pub heard : Table → Found → List ℕ → ℕ → List ℕ → ℕ → Act
+heard = heardWith stock
 
 abbrev pub sayExpired : Act → Step → List ℕ
 sayExpired a s = named a ∷ eventNumber (s .event) ∷ s .peer .run .sync ∷ framesNumbers (s .frames)
@@ -252,20 +282,26 @@ requested (suc n) = requestStep (requested n) 19 .peer
 abbrev pub answerRequested : Peer → ℕ → List ℕ
 answerRequested p group = sayRequested (heard (placed empty 7 p) (found.At 7) (address 1) 0 (requestOctets group) 0) (requestStep p group)
 
-abbrev pub answerOffered : Table → List ℕ → List ℕ
-answerOffered T frame = sayOffered (heard T found.Nothing (address 100) 0 frame 1) (frameStep T found.Nothing (address 100) 0 frame stock expected 1)
+abbrev pub answerOffered : List ℕ → Table → List ℕ → List ℕ
+answerOffered fresh T frame =
+    sayOffered (heardWith fresh T found.Nothing (address 100) 0 frame 1) (frameStep T found.Nothing (address 100) 0 frame fresh expected 1)
 
 unfoldable pub answer : Question → List ℕ
-answer (Received s) = received s stock
-answer (Stocked n) = received (commitOctets 96) (replicate n 0)
+answer (Received s) = received empty s stock
+answer (Stocked n) = received empty (commitOctets 96) (replicate n 0)
+answer (ReceivedWide s) = received wideEmpty s wideStock
+answer (StockedWide n) = received wideEmpty (commitOctets 96) (replicate n 0)
 answer (Formed size) = formNumbers (formOf size)
+answer (SetUp size length) = setUpNumbers (formOf size) length
 answer (Deadline time) = started time .run .t0 ∷ []
 answer (Due time later) = slotNumbers (dueSlot (placed empty 7 (started time)) later)
 answer (DueAfter time heard later) = answerDueAfter (placed empty 7 (started time)) (commitOctets 96) heard later
 answer (Expired state sync) = answerExpired (placed empty 7 (running 1 state sync))
 answer (Confirmed sync rc counter verdict) = answerConfirmed (placed empty 7 (linked 1 sync rc)) (confirmOctets counter 32) verdict
 answer (Requested n group) = answerRequested (requested n) group
-answer (Offered n) = answerOffered (withOpen n) (commitOctets 96)
+answer (Offered n) = answerOffered stock (withOpen n) (commitOctets 96)
+answer (Without21 s) = answerOffered stock empty s
+answer (With21 s) = answerOffered wideStock wideEmpty s
 
 -- ---- the table of cases
 
@@ -300,16 +336,40 @@ edges =
     ∷ case (Received (confirmWith (element 1 ++ (221 ∷ [])))) (7 ∷ [])
     ∷ case (Received (confirmWith (elements 8 206))) (2 ∷ 0 ∷ 0 ∷ 1 ∷ 0 ∷ [])
     ∷ case (Received (confirmWith (elements 8 207))) (7 ∷ [])
-    -- "144 octets for each group in list order", here two: one octet too few, one too many, and as wide as a value's commits
+    -- "144 octets for each group in list order", here two: one octet too few, one too many, and parts of the other width
     ∷ case (Stocked 287) (4 ∷ [])
     ∷ case (Stocked 288) (1 ∷ 0 ∷ 19 ∷ 0 ∷ 0 ∷ [])
     ∷ case (Stocked 289) (4 ∷ [])
     ∷ case (Stocked 396) (4 ∷ [])
-    -- "record size 864": one less, one more, and that of a record with commits as wide as a value's tell no form
-    ∷ case (Formed 863) (0 ∷ 0 ∷ 0 ∷ 0 ∷ [])
-    ∷ case (Formed 864) (864 ∷ 144 ∷ 64 ∷ 2 ∷ [])
-    ∷ case (Formed 865) (0 ∷ 0 ∷ 0 ∷ 0 ∷ [])
-    ∷ case (Formed 1080) (0 ∷ 0 ∷ 0 ∷ 0 ∷ [])
+    -- request g, "198 octets in each part of the stock", here three: the same
+    ∷ case (StockedWide 593) (4 ∷ [])
+    ∷ case (StockedWide 594) (1 ∷ 0 ∷ 19 ∷ 0 ∷ 0 ∷ [])
+    ∷ case (StockedWide 595) (4 ∷ [])
+    ∷ case (StockedWide 432) (4 ∷ [])
+    -- "record size 864", and request g, "records of 1,080": 64 slots and 2 groups, 60 slots and 3 groups; one less and one more tell no form
+    ∷ case (Formed 863) (0 ∷ 0 ∷ 0 ∷ [])
+    ∷ case (Formed 864) (864 ∷ 64 ∷ 2 ∷ 144 ∷ [])
+    ∷ case (Formed 865) (0 ∷ 0 ∷ 0 ∷ [])
+    ∷ case (Formed 1079) (0 ∷ 0 ∷ 0 ∷ [])
+    ∷ case (Formed 1080) (1080 ∷ 60 ∷ 3 ∷ 198 ∷ [])
+    ∷ case (Formed 1081) (0 ∷ 0 ∷ 0 ∷ [])
+    -- request g: 60 slots of 1,080 octets are set up, 61 are not, nor is an octet more or less; 4,352 octets are 5 slots of one form and 4 of the other
+    ∷ case (SetUp 1080 64832) (0 ∷ 60 ∷ [])
+    ∷ case (SetUp 1080 65912) (1 ∷ [])
+    ∷ case (SetUp 1080 64831) (1 ∷ [])
+    ∷ case (SetUp 1080 64833) (1 ∷ [])
+    ∷ case (SetUp 864 4352) (0 ∷ 5 ∷ [])
+    ∷ case (SetUp 1080 4352) (0 ∷ 4 ∷ [])
+    -- request g, "scalar 66 octets, element 132": where 21 is listed, 206 to 462 octets are read
+    ∷ case (ReceivedWide (offerOctets 21 197)) (7 ∷ [])
+    ∷ case (ReceivedWide (offerOctets 21 198)) (1 ∷ 0 ∷ 21 ∷ 0 ∷ 0 ∷ [])
+    ∷ case (ReceivedWide (offerOctets 21 454)) (1 ∷ 0 ∷ 21 ∷ 0 ∷ 256 ∷ [])
+    ∷ case (ReceivedWide (offerOctets 21 455)) (7 ∷ [])
+    ∷ case (With21 (offerOctets 21 198)) (named AnswerCommit ∷ 21 ∷ 1 ∷ 0 ∷ 21 ∷ 0 ∷ 2 ∷ 0 ∷ 0 ∷ 1 ∷ [])
+    -- where it is not, any rest is, "as any unsupported group": 77
+    ∷ case (Without21 (offerOctets 21 0)) (named RefuseGroup ∷ 0 ∷ 1 ∷ 77 ∷ 21 ∷ 0 ∷ [])
+    ∷ case (Without21 (offerOctets 21 198)) (named RefuseGroup ∷ 0 ∷ 1 ∷ 77 ∷ 21 ∷ 0 ∷ [])
+    ∷ case (Without21 (offerOctets 22 198)) (named RefuseGroup ∷ 0 ∷ 1 ∷ 77 ∷ 22 ∷ 0 ∷ [])
     -- "t0 set with Sync 0 at 4,294,967,290: deadline 34; not due at 33, due at 34"
     ∷ case (Deadline 4294967290) (34 ∷ [])
     ∷ case (Due 4294967290 33) []

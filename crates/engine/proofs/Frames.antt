@@ -10,6 +10,7 @@ use lib.Seq.{take-all}
 use borrow.Author.Tests.{eq-eqb, ne-eqb, lt-ltb, le-ltb, eqb-true}
 use Rattle.octets.specs.Octets.{Bytes, part}
 use Rattle.octets.specs.Scan.{if_then_else_}
+use Rattle.octets.proofs.Scan.{clash}
 use Rattle.octets.specs.declared.Found.{Found}
 use Rattle.octets.specs.declared.Found.the-variants as found
 use Rattle.groups.specs.Groups.{Storable, freshOf, freshOk}
@@ -41,7 +42,7 @@ use Rattle.answers.specs.Answers.{Leaves, ends, refuse, seating, refused, said,
 use Rattle.answers.proofs.Laws.{clashed, turned-refused, turned-go}
 use Rattle.calls.specs.Calls.{termsOf, clockOf, brings, freshIn, admitFrame, frameTurn, frameStep, receives}
 use Rattle.engine.specs.declared.Admitted.{Admitted}
-use Rattle.engine.specs.InSlot.{Held, Met, Stocks, Fitting, givenBy, slotless, Brought, refusedFrame, AdmitsFrame, TakesFrame, DoesAt, answersOutside}
+use Rattle.engine.specs.InSlot.{Held, Met, Listing, Stocks, Fitting, isUnsound, isUnusable, foundIn, givenBy, slotless, Brought, refusedFrame, AdmitsFrame, TakesFrame, DoesAt, answersOutside}
 use Rattle.engine.proofs.Headers.{enters-met}
 use Rattle.engine.proofs.Windows.{look-seat, seat-done}
 use Rattle.engine.proofs.Starts.{seat-none, seated-terms, unseated-terms, brought, stock-tested, stocks}
@@ -144,6 +145,38 @@ module _ (h : Header) (frame fresh expected : List ℕ) (verdict : ℕ) (r : Adm
         view = A .view;
         short = A .short;
       }
+
+-- by the entry taken apart
+pub takes-if-unsound : (r : Admitted) (h : Header) (E : Entry) (frame fresh expected : List ℕ) (verdict : ℕ) (b : Bool) → b ≡ isUnsound E → b ≡ true
+    → r ≡ refusedFrame why.Unsound → TakesFrame r h E frame fresh expected verdict
+takes-if-unsound r h entry-is.Unsound frame fresh expected verdict b e q k = takes-unsound h frame fresh expected verdict r entry-is.Unsound refl k
+takes-if-unsound r h entry-is.Unusable frame fresh expected verdict b e q k = absurd (clash (sym e ∙ q) refl)
+takes-if-unsound r h entry-is.Absent frame fresh expected verdict b e q k = absurd (clash (sym e ∙ q) refl)
+takes-if-unsound r h (entry-is.At i) frame fresh expected verdict b e q k = absurd (clash (sym e ∙ q) refl)
+
+pub takes-if-unusable : (r : Admitted) (h : Header) (E : Entry) (frame fresh expected : List ℕ) (verdict : ℕ) (b : Bool) → b ≡ isUnusable E → b ≡ true
+    → r ≡ refusedFrame why.Address → TakesFrame r h E frame fresh expected verdict
+takes-if-unusable r h entry-is.Unsound frame fresh expected verdict b e q k = absurd (clash (sym e ∙ q) refl)
+takes-if-unusable r h entry-is.Unusable frame fresh expected verdict b e q k = takes-unusable h frame fresh expected verdict r entry-is.Unusable refl k
+takes-if-unusable r h entry-is.Absent frame fresh expected verdict b e q k = absurd (clash (sym e ∙ q) refl)
+takes-if-unusable r h (entry-is.At i) frame fresh expected verdict b e q k = absurd (clash (sym e ∙ q) refl)
+
+-- neither unsound nor unusable
+module _ (h : Header) (frame fresh expected : List ℕ) (verdict : ℕ) (a b : Bool) where
+  pub takes-found : (r : Admitted) (E : Entry) (f : Found) → a ≡ isUnsound E → a ≡ false → b ≡ isUnusable E → b ≡ false → f ≡ foundIn E
+      → AdmitsFrame r h f frame fresh expected verdict → TakesFrame r h E frame fresh expected verdict
+  takes-found r entry-is.Unsound f p u q v e A = absurd (clash p u)
+  takes-found r entry-is.Unusable f p u q v e A = absurd (clash q v)
+  takes-found r entry-is.Absent f p u q v e A =
+      takes-absent h frame fresh expected verdict r entry-is.Absent refl (subst (λ (x : Found). AdmitsFrame r h x frame fresh expected verdict) e A)
+  takes-found r (entry-is.At k) f p u q v e A =
+      takes-at h frame fresh expected verdict r (entry-is.At k) k refl (subst (λ (x : Found). AdmitsFrame r h x frame fresh expected verdict) e A)
+
+pub listing-header : (h : Header) (E : Entry) (a b : Bool) → Listing h E → a ≡ isUnsound E → a ≡ false → b ≡ isUnusable E → b ≡ false → headerOk h ≡ true
+listing-header h entry-is.Unsound a b L p u q v = absurd (clash p u)
+listing-header h entry-is.Unusable a b L p u q v = absurd (clash q v)
+listing-header h entry-is.Absent a b L p u q v = L .absent refl
+listing-header h (entry-is.At k) a b L p u q v = L .here k refl
 
 -- a frame that goes on
 pub record Gone (t : List ℕ) (h : Header) (f : Found) (fresh expected : List ℕ) : Type 0 where

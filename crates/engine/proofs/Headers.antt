@@ -18,11 +18,11 @@ use Rattle.groups.proofs.Fresh.{fresh-length}
 use Rattle.record.specs.declared.Header.{Header}
 use Rattle.record.specs.declared.Peer.{Peer}
 use Rattle.record.specs.declared.Run.{Run}
-use Rattle.record.specs.Layout.{groupsOf, widthIn, decodePeer, decodeHeader, headerOf, recordSize, recordAt, narrow, noPeer, noRun, periodOf, limitOf, factoryPeriod, factoryLimit}
+use Rattle.record.specs.Layout.{groupsOf, widthIn, decodePeer, decodeHeader, headerOf, recordSize, recordAt, wide, noPeer, noRun, periodOf, limitOf, factoryPeriod, factoryLimit}
 use Rattle.record.proofs.Laws.{ShapeRun, ShapePeer, shape-peer, form-width}
 use Rattle.record.proofs.Windows.{no-peer-left}
 use Rattle.soundness.specs.Soundness.{headerOk, highSync, runOk, peerOk}
-use Rattle.soundness.proofs.Laws.{header-form, settings-form, header-groups, header-width, run-states, run-is-committed, run-is-confirmed, run-unused, peer-in-use, peer-unused}
+use Rattle.soundness.proofs.Laws.{header-form, settings-form, header-groups, header-width, header-count, run-states, run-is-committed, run-is-confirmed, run-unused, peer-in-use, peer-unused}
 use Rattle.table.specs.Table as table
 use Rattle.table.specs.Table.{decodeTable, slots, slot, sound, entry, Reached, Sized, Enters}
 use Rattle.table.specs.declared.Entrance.{Entrance}
@@ -43,7 +43,7 @@ use Rattle.engine.specs.InSlot.{Held, Met, Listing, Stocks, Fitting, Clo
 
 module _ (h : Header) (ok : headerOk h ≡ true) (three : length (h .settings .groups) ≡ 3) where
   pub count-fits : h .settings .count ≤ length (h .settings .groups)
-  count-fits = omega (arith, three, header-groups h ok .few)
+  count-fits = omega (arith, three, header-count h ok)
 
   pub listed-count : h .settings .count ≡ length (take (h .settings .count) (h .settings .groups))
   listed-count = sym (length-take-le (h .settings .count) (h .settings .groups) count-fits)
@@ -56,12 +56,12 @@ module _ (h : Header) (ok : headerOk h ≡ true) (three : length (h .settings .g
     pub counted-stock : {w : ℕ} → w ≡ widthIn h → (1 ≤ w) × ((w ≤ width) × (length (take n (h .settings .groups)) ≤ 8))
     counted-stock ew =
         let l : length (take n (h .settings .groups)) ≡ n = length-take-le n (h .settings .groups) counted-fits in
-        (omega (arith, ew, header-width h ok), (omega (arith, ew, form-width (h .geometry .size)), omega (arith, l, en, header-groups h ok .few)))
+        (omega (arith, ew, header-width h ok), (omega (arith, ew, form-width (h .geometry .size)), omega (arith, l, en, header-count h ok)))
 
   module _ (w : ℕ) (ew : w ≡ widthIn h) where
     -- what the test of the stock asks
     pub stock-asks : w ≤ width → (1 ≤ w) × ((w ≤ width) × (length (groupsOf h) ≤ 8))
-    stock-asks m = (omega (arith, ew, header-width h ok), (m, omega (arith, listed-count, header-groups h ok .few)))
+    stock-asks m = (omega (arith, ew, header-width h ok), (m, omega (arith, listed-count, header-count h ok)))
 
     -- a fresh commit for each
     pub stocked : (fresh : List ℕ) → freshOk (widthIn h) (groupsOf h) fresh ≡ true → Stocked w (groupsOf h) fresh
@@ -69,7 +69,7 @@ module _ (h : Header) (ok : headerOk h ≡ true) (three : length (h .settings .g
         record {
           wide = omega (arith, ew, header-width h ok);
           some = omega (arith, listed-count, header-groups h ok .some);
-          few = omega (arith, listed-count, header-groups h ok .few);
+          few = omega (arith, listed-count, header-count h ok);
           each = fresh-length w (groupsOf h) fresh (ap (λ (W : ℕ). freshOk W (groupsOf h) fresh) ew ∙ e);
         }
 
@@ -181,13 +181,13 @@ module _ (t : List ℕ) (h : Header) (k : ℕ) (H : Held t h (found.At k)) (w : 
 -- a free record outside the table: as many zeros as a record has octets, of those that serve the largest
 module _ (h : Header) (ok : headerOk h ≡ true) (w : ℕ) (ew : (w ≡ widthIn h) × (w ≤ width)) (n : ℕ) (en : n ≡ recordSize w) where
   abbrev blank : List ℕ
-  blank = take n (replicate (narrow .size) 0)
+  blank = take n (replicate (wide .size) 0)
 
-  pub blank-fits : n ≤ narrow .size
-  blank-fits = omega (arith, ew .0, en, header-width h ok)
+  pub blank-fits : n ≤ wide .size
+  blank-fits = omega (arith, ew .1, en)
 
   blank-zeros : blank ≡ replicate n 0
-  blank-zeros = take-zeros n (narrow .size) blank-fits
+  blank-zeros = take-zeros n (wide .size) blank-fits
 
   pub blank-length : n ≡ length blank
   blank-length = sym (ap length blank-zeros ∙ length-replicate {A = ℕ} n 0)

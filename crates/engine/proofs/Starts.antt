@@ -17,8 +17,9 @@ use Rattle.record.specs.Layout.{groupsOf, widthIn, decodePeer, recordSize, noPe
 use Rattle.record.proofs.Windows.{no-peer-left}
 use Rattle.table.specs.Table.{Table, decodeTable, encodeTable, recounted, slot, lookBy, entry, Enters}
 use Rattle.table.specs.declared.Entrance.{Entrance}
-use Rattle.table.specs.Initial.{slotsFor, initialOk, initial}
+use Rattle.table.specs.Initial.{made, initialOk, initial}
 use Rattle.table.proofs.Initial.{initial-ok-form, initial-recounted}
+use Rattle.record.proofs.Laws.{wide-served}
 use Rattle.table.specs.declared.Entry.{Entry}
 use Rattle.table.specs.declared.Entry.the-variants as entry-is
 use Rattle.rules.specs.declared.Clock.{Clock}
@@ -217,14 +218,13 @@ kill-freed t a u e k r p q l = subst (Leaves r u) (sym (kills-by t a e (entry-is
 
 -- ---- Set up
 
-pub initialize-done : (t own u : List ℕ) (s : Settings) (b : Bool) (r : Answer) → b ≡ initialOk s own (length t) → u ≡ initial s own t → b ≡ true → r ≡ quiet own → Leaves r u (initializes t own s)
+pub initialize-done : (t own u : List ℕ) (s : Settings) (b : Bool) (r : Answer) → b ≡ initialOk made s own (length t) → u ≡ initial made s own t → b ≡ true → r ≡ quiet own → Leaves r u (initializes made t own s)
 unfolding initializes initial ends
 initialize-done t own u s b r eb eu q er =
-    let z : initialOk s own (length t) ≡ true = sym eb ∙ q in
-    let f = initial-ok-form s own (length t) z in
-    let n = initial-recounted s own (slotsFor (length t)) (f .settings) (f .owner) (f .some) (f .few) in
+    let z : initialOk made s own (length t) ≡ true = sym eb ∙ q in
+    let n = initial-recounted made wide-served s own (length t) (initial-ok-form made s own (length t) z) in
     rw z (record { answer = er; table = eu ∙ rw z (ap encodeTable (sym n)) })
 
-pub initialize-refused : (t own u : List ℕ) (s : Settings) (b : Bool) (r : Answer) → b ≡ initialOk s own (length t) → u ≡ initial s own t → b ≡ false → r ≡ refused why.Settings → Leaves r u (initializes t own s)
+pub initialize-refused : (t own u : List ℕ) (s : Settings) (b : Bool) (r : Answer) → b ≡ initialOk made s own (length t) → u ≡ initial made s own t → b ≡ false → r ≡ refused why.Settings → Leaves r u (initializes made t own s)
 unfolding initializes initial
-initialize-refused t own u s b r eb eu q er = let z : initialOk s own (length t) ≡ false = sym eb ∙ q in rw z (record { answer = er; table = eu ∙ rw z refl })
+initialize-refused t own u s b r eb eu q er = let z : initialOk made s own (length t) ≡ false = sym eb ∙ q in rw z (record { answer = er; table = eu ∙ rw z refl })

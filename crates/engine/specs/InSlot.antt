@@ -46,6 +46,25 @@ pub record Listing (h : Header) (E : Entry) : Type 0 where
   pub here : (k : ℕ) → E ≡ entry-is.At k → headerOk h ≡ true
   pub absent : E ≡ entry-is.Absent → headerOk h ≡ true
 
+-- what an address came to, taken apart
+abbrev pub isUnsound : Entry → Bool
+isUnsound entry-is.Unsound = true
+isUnsound entry-is.Unusable = false
+isUnsound entry-is.Absent = false
+isUnsound (entry-is.At k) = false
+
+abbrev pub isUnusable : Entry → Bool
+isUnusable entry-is.Unsound = false
+isUnusable entry-is.Unusable = true
+isUnusable entry-is.Absent = false
+isUnusable (entry-is.At k) = false
+
+abbrev pub foundIn : Entry → Found
+foundIn entry-is.Unsound = found.Nothing
+foundIn entry-is.Unusable = found.Nothing
+foundIn entry-is.Absent = found.Nothing
+foundIn (entry-is.At k) = found.At k
+
 -- the header of a sound table, and a fresh commit for each of its groups
 pub record Stocks (h : Header) (fresh : List ℕ) : Type 0 where
   pub header : headerOk h ≡ true

@@ -13,16 +13,17 @@ ghost use Rattle.rules.specs.Book.{expired, onStart, onFrame, onClock};
 ghost use Rattle.rules.specs.Given.{terms, call};
 ghost use Rattle.message.specs.View.{messageOf};
 ghost use Rattle.answers.specs.Answers.{Leaves, finishes};
+ghost use Rattle.table.specs.Initial.{made};
 ghost use Rattle.calls.specs.Calls.{termsOf, crowded, clockOf, freshIn, initializes, admitStart, startTurn, startStep, initiates, killStep, kills, receives, dueSlot, clockStep, expires};
-ghost use Rattle.engine.specs.InSlot.{Held, Met, Stocks, Fitting, Listing, givenBy, slotless, Clocked, Brought, refusedFrame, AdmitsFrame, TakesFrame, DoesAt, answersOutside};
+ghost use Rattle.engine.specs.InSlot.{Held, Met, Stocks, Fitting, Listing, isUnsound, isUnusable, foundIn, givenBy, slotless, Clocked, Brought, refusedFrame, AdmitsFrame, TakesFrame, DoesAt, answersOutside};
 use answers::Answer;
 use answers::Refusal;
 use answers::Turn;
 use message::View;
 use octets::Found;
 use record::Header;
-use record::NARROW_RECORD;
 use record::Settings;
+use record::WIDE_RECORD;
 use rules::Clock;
 use rules::Frames;
 use rules::Given;
@@ -30,11 +31,11 @@ use rules::Said;
 use table::Entry;
 
 // The octets of the largest record.
-const MOST: usize = NARROW_RECORD;
+const MOST: usize = WIDE_RECORD;
 
 // Set up (also clears). Cause 1.
 pub fn initialize(t: &mut [u8], own: [u8; 6], settings: Settings) -> Answer
-    ensures { λ r. ⌜ Leaves r (now (t .exit)) (initializes (now (t .entry)) own settings) ⌝ }
+    ensures { λ r. ⌜ Leaves r (now (t .exit)) (initializes made (now (t .entry)) own settings) ⌝ }
 {
     if table::write_initial(t, own, settings) {
         return answers::say_nothing(own);
@@ -283,6 +284,40 @@ fn admit_frame(
     }
 }
 
+// What an address came to, taken apart, so that what follows for a record and for none is one call.
+fn is_unsound(entry: Entry) -> bool
+    ensures { λ r. ⌜ r ≡ isUnsound entry ⌝ }
+{
+    match entry {
+        Entry::Unsound => true,
+        Entry::Unusable => false,
+        Entry::Absent => false,
+        Entry::At(_k) => false,
+    }
+}
+
+fn is_unusable(entry: Entry) -> bool
+    ensures { λ r. ⌜ r ≡ isUnusable entry ⌝ }
+{
+    match entry {
+        Entry::Unsound => false,
+        Entry::Unusable => true,
+        Entry::Absent => false,
+        Entry::At(_k) => false,
+    }
+}
+
+fn found_in(entry: Entry) -> Found
+    ensures { λ r. ⌜ r ≡ foundIn entry ⌝ }
+{
+    match entry {
+        Entry::Unsound => Found::Nothing,
+        Entry::Unusable => Found::Nothing,
+        Entry::Absent => Found::Nothing,
+        Entry::At(k) => Found::At(k),
+    }
+}
+
 // Causes 2, 3, 4, 5, 6, 7.
 fn frame_turn(
     h: Header,
@@ -297,12 +332,14 @@ fn frame_turn(
 {
     let w = record::width_of(h);
     let n = h.settings.count as usize;
-    match entry {
-        Entry::Unsound => refuse_frame(Refusal::Unsound),
-        Entry::Unusable => refuse_frame(Refusal::Address),
-        Entry::Absent => admit_frame(h, w, n, Found::Nothing, body, fresh, expected, verdict),
-        Entry::At(k) => admit_frame(h, w, n, Found::At(k), body, fresh, expected, verdict),
+    if is_unsound(entry) {
+        return refuse_frame(Refusal::Unsound);
     }
+    if is_unusable(entry) {
+        return refuse_frame(Refusal::Address);
+    }
+    let f = found_in(entry);
+    admit_frame(h, w, n, f, body, fresh, expected, verdict)
 }
 
 // The expected token, which has 32 octets.

@@ -1,4 +1,4 @@
--- The settings as C hands them over, 16 octets: 0 group count; 1 zero; 2–3 and 4–5 the groups; 6–7 zero; 8–9 threshold; 10–15 zero. Every field is
+-- The settings as C hands them over, 16 octets: 0 group count; 1 zero; 2–3, 4–5 and 6–7 the groups; 8–9 threshold; 10–15 zero. Every field is
 -- little-endian.
 use mathlib.Core.Bool.{Bool, _&&_}
 use mathlib.Core.List.{List, [], _∷_}
@@ -8,8 +8,8 @@ use Rattle.record.specs.declared.Settings.{Settings}
 
 unfoldable pub settingsOf : List ℕ → Settings
 settingsOf s =
-    record { count = num (part s 0 1); groups = num (part s 2 2) ∷ num (part s 4 2) ∷ 0 ∷ []; threshold = num (part s 8 2); period = 0; limit = 0 }
+    record { count = num (part s 0 1); groups = num (part s 2 2) ∷ num (part s 4 2) ∷ num (part s 6 2) ∷ []; threshold = num (part s 8 2); period = 0; limit = 0 }
 
--- the reserved octets, 1, 6–7 and 10–15, are zero
+-- the reserved octets, 1 and 10–15, are zero
 unfoldable pub reservedZero : List ℕ → Bool
-reservedZero s = allZero (part s 1 1) && (allZero (part s 6 2) && allZero (part s 10 6))
+reservedZero s = allZero (part s 1 1) && allZero (part s 10 6)

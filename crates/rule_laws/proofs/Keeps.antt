@@ -26,8 +26,8 @@ use Rattle.record.specs.declared.Link.{Link}
 use Rattle.record.specs.declared.Peer.{Peer}
 use Rattle.record.specs.Layout.{noRun, noLink, noPeer}
 use Rattle.record.proofs.Laws.{FitRun, FitLink, FitPeer, shape-peer, fit-no-run, fit-no-link, fit-no-peer}
-use Rattle.soundness.specs.Soundness.{usable, allKnown, eachOnce, commitOk, tokenOk, rejectedOk, committedOk, confirmedOk, runOk, linkOk, peerOk}
-use Rattle.soundness.proofs.Laws.{Token, Committed, Confirmed, Finished, no-run-ok, no-link-ok, no-peer-ok, run-unused, peer-unused, run-is-committed, committed-is-run, run-is-confirmed, confirmed-is-run, run-states, link-is-finished, finished-is-link, peer-in-use, in-use-peer, listed-known}
+use Rattle.soundness.specs.Soundness.{usable, eachOnce, commitOk, tokenOk, rejectedOk, committedOk, confirmedOk, runOk, linkOk, peerOk}
+use Rattle.soundness.proofs.Laws.{Token, Committed, Confirmed, Finished, no-run-ok, no-link-ok, no-peer-ok, run-unused, peer-unused, run-is-committed, committed-is-run, run-is-confirmed, confirmed-is-run, run-states, link-is-finished, finished-is-link, peer-in-use, in-use-peer}
 use Rattle.rules.specs.declared.Frames.{Frames}
 use Rattle.rules.specs.declared.Frames.the-variants.{One}
 use Rattle.rules.specs.Parts.{withSync, withSc, withToken, switched, heardAgain, withRun, withLink}
@@ -47,7 +47,7 @@ pub record Place (own a : List ℕ) : Type 0 where
 -- the listed groups: known ones, each once
 pub record Lists (gs : List ℕ) : Type 0 where
   pub few : length gs ≤ 8
-  pub known : allKnown gs ≡ true
+  pub known : (g : ℕ) → listed gs g ≡ true → known g ≡ true
   pub once : eachOnce gs ≡ true
 
 -- a commit of a group as it is stored
@@ -177,11 +177,14 @@ pub known-fits : (g : ℕ) → known g ≡ true → g < 65536
 unfolding known
 known-fits g e = elim (ℕ-discrete g 19) [
   | yes p ↦ omega arith
-  | no d ↦ elim (ℕ-discrete g 20) [ yes p ↦ omega arith | no d₁ ↦ absurd (clash e (rw (ne-eqb g 19 d, ne-eqb g 20 d₁) refl)) ]
+  | no d ↦ elim (ℕ-discrete g 20) [
+    | yes p ↦ omega arith
+    | no d₁ ↦ elim (ℕ-discrete g 21) [ yes p ↦ omega arith | no d₂ ↦ absurd (clash e (rw (ne-eqb g 19 d, ne-eqb g 20 d₁, ne-eqb g 21 d₂) refl)) ]
+  ]
 ]
 
 pub group-fits : (gs : List ℕ) (g : ℕ) → Lists gs → listed gs g ≡ true → g < 65536
-group-fits gs g l e = known-fits g (listed-known gs g (l .known) e)
+group-fits gs g l e = known-fits g (l .known g e)
 
 -- no group is marked at first
 none-marked : (i : ℕ) → marked 0 i ≡ false

@@ -44,7 +44,7 @@ pub record Ready (κ : Clock) (W : ℕ) (s groups fresh : List ℕ) (m : Message
   pub record-is : Whole κ W s
   pub stock : Stocked W groups fresh
   pub token : m .toklen ≤ 256
-  pub scalars : 48 ≤ W
+  pub scalars : 66 ≤ W
   pub commit : Storable W (m .commit)
 
 -- what two acts ask of the record beside: their ladders have tested it

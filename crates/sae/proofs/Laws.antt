@@ -15,6 +15,7 @@ use Rattle.record.specs.declared.Header.{Header}
 use Rattle.record.specs.declared.Settings.{Settings}
 use Rattle.record.specs.Layout.{groupsOf}
 use Rattle.record.specs.SettingsOctets.{settingsOf, reservedZero}
+use Rattle.record.specs.declared.Form.{Form}
 use Rattle.record.proofs.Codec.{lay, lay-all}
 use Rattle.rules.specs.declared.Frame.{Frame}
 use Rattle.rules.specs.declared.Frames.{Frames}
@@ -123,19 +124,19 @@ replied x t l r answer given e q w = record { returns = q ∙ ap (λ (y : Answer
 
 -- ---- the settings
 
-pub settings-are : (s : List ℕ) (n g h k : ℕ) → n ≡ num (part s 0 1) → g ≡ num (part s 2 2) → h ≡ num (part s 4 2) → k ≡ num (part s 8 2)
-    → record { count = n; groups = g ∷ h ∷ 0 ∷ []; threshold = k; period = 0; limit = 0 } ≡ settingsOf s
+pub settings-are : (s : List ℕ) (n g h i k : ℕ) → n ≡ num (part s 0 1) → g ≡ num (part s 2 2) → h ≡ num (part s 4 2) → i ≡ num (part s 6 2) → k ≡ num (part s 8 2)
+    → record { count = n; groups = g ∷ h ∷ i ∷ []; threshold = k; period = 0; limit = 0 } ≡ settingsOf s
 unfolding settingsOf
-settings-are s n g h k en eg eh ek = rw (en, eg, eh, ek)
+settings-are s n g h i k en eg eh ei ek = rw (en, eg, eh, ei, ek)
 
-module _ (t own s : List ℕ) (b : Bool) (p : b ≡ reservedZero s) where
-  pub from-reserved : (r : Answer) → not b ≡ true → r ≡ refused why.Settings → Leaves r t (initializesFrom t own s)
+module _ (f : Form) (t own s : List ℕ) (b : Bool) (p : b ≡ reservedZero s) where
+  pub from-reserved : (r : Answer) → not b ≡ true → r ≡ refused why.Settings → Leaves r t (initializesFrom f t own s)
   unfolding initializesFrom
   from-reserved r q w = let z : reservedZero s ≡ false = sym p ∙ not-true b q in rw z (record { answer = w; table = refl })
 
-  pub from-settings : (x : Settings) (u : List ℕ) (r : Answer) → not b ≡ false → x ≡ settingsOf s → Leaves r u (initializes t own x) → Leaves r u (initializesFrom t own s)
+  pub from-settings : (x : Settings) (u : List ℕ) (r : Answer) → not b ≡ false → x ≡ settingsOf s → Leaves r u (initializes f t own x) → Leaves r u (initializesFrom f t own s)
   unfolding initializesFrom
-  from-settings x u r q e l = let z : reservedZero s ≡ true = sym p ∙ not-false b q in rw z (subst (λ (y : Settings). Leaves r u (initializes t own y)) e l)
+  from-settings x u r q e l = let z : reservedZero s ≡ true = sym p ∙ not-false b q in rw z (subst (λ (y : Settings). Leaves r u (initializes f t own y)) e l)
 
 -- ---- the parts of a frame
 

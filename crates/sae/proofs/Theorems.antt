@@ -14,6 +14,7 @@ use Rattle.record.specs.Layout.{groupsOf}
 use Rattle.record.specs.SettingsOctets.{settingsOf, reservedZero}
 use Rattle.rules.specs.Book.{_is_, Step}
 use Rattle.message.specs.View.{view}
+use Rattle.record.specs.declared.Form.{Form}
 use Rattle.table.specs.Table.{decodeTable, sound}
 use Rattle.table.specs.Initial.{slotsFor, initialOk, initialTable}
 use Rattle.answers.specs.declared.Answer.{Answer}
@@ -56,11 +57,11 @@ unfolding turned
 turned-refuses (turn.Refused c) g t a = unchanged t _
 turned-refuses (turn.Go f) g t a = finish-refuses t a f (g f)
 
-pub initialize-refuses : (t own s : List ℕ) → Refuses t (initializesFrom t own s)
+pub initialize-refuses : (f : Form) (t own s : List ℕ) → Refuses t (initializesFrom f t own s)
 unfolding initializesFrom initializes ends quiet
-initialize-refuses t own s = go (reservedZero s) (initialOk (settingsOf s) own (length t))
+initialize-refuses f t own s = go (reservedZero s) (initialOk f (settingsOf s) own (length t))
   where
-    go : (a b : Bool) → Refuses t (if a then (if b then ends (quiet own) (initialTable (settingsOf s) own (slotsFor (length t))) else record { answer = refused why.Settings; table = t }) else record { answer = refused why.Settings; table = t })
+    go : (a b : Bool) → Refuses t (if a then (if b then ends (quiet own) (initialTable f (settingsOf s) own (slotsFor f (length t))) else record { answer = refused why.Settings; table = t }) else record { answer = refused why.Settings; table = t })
     go true true = record { leaves = λ c e. let z : _≡_ {A = ℕ} 0 1 = cc in absurd (omega arith) }
     go true false = unchanged t _
     go false b = unchanged t _

@@ -4,6 +4,7 @@ ghost use mathlib.Core.Path.{_≡_};
 ghost use Prim.Native.Nat.{_≤_};
 ghost use lib.ListN.{length};
 ghost use Rattle.record.specs.SettingsOctets.{settingsOf, reservedZero};
+ghost use Rattle.table.specs.Initial.{made};
 ghost use Rattle.rules.specs.Book.{eventNumber};
 ghost use Rattle.answers.specs.Answers.{Leaves, returned};
 ghost use Rattle.calls.specs.Calls.{initializesFrom, initiates, kills, receives, expires};
@@ -134,10 +135,11 @@ fn settings_of(s: [u8; 16]) -> Settings
     let count = octets::get8(&s[..], 0);
     let first = octets::get16(&s[..], 2);
     let second = octets::get16(&s[..], 4);
+    let third = octets::get16(&s[..], 6);
     let threshold = octets::get16(&s[..], 8);
     Settings {
         count: count,
-        groups: [first, second, 0],
+        groups: [first, second, third],
         threshold: threshold,
         period: 0,
         limit: 0,
@@ -149,14 +151,13 @@ fn reserved_zero(s: [u8; 16]) -> bool
     ensures { λ r. ⌜ r ≡ reservedZero s ⌝ }
 {
     let a = octets::zero_part(&s[..], 1, 1);
-    let b = octets::zero_part(&s[..], 6, 2);
-    let c = octets::zero_part(&s[..], 10, 6);
-    a & (b & c)
+    let b = octets::zero_part(&s[..], 10, 6);
+    a & b
 }
 
 // Set up from the octets of the settings; cause 1.
 fn initialize_from(t: &mut [u8], own: [u8; 6], s: [u8; 16]) -> Answer
-    ensures { λ r. ⌜ Leaves r (now (t .exit)) (initializesFrom (now (t .entry)) own s) ⌝ }
+    ensures { λ r. ⌜ Leaves r (now (t .exit)) (initializesFrom made (now (t .entry)) own s) ⌝ }
 {
     if !reserved_zero(s) {
         return answers::refuse_with(Refusal::Settings);
@@ -173,7 +174,7 @@ pub extern "C" fn sae_initialize(
     settings: &[u8; 16],
     answer: &mut [u8; 28],
 ) -> u32
-    ensures { λ r. ⌜ Returns r (now (t .exit)) (now (answer .exit)) (now (answer .entry)) (initializesFrom (now (t .entry)) (now (own .entry)) (now (settings .entry))) ⌝ }
+    ensures { λ r. ⌜ Returns r (now (t .exit)) (now (answer .exit)) (now (answer .entry)) (initializesFrom made (now (t .entry)) (now (own .entry)) (now (settings .entry))) ⌝ }
 {
     let a = initialize_from(t, *own, *settings);
     reply(a, answer)

@@ -1,5 +1,5 @@
 -- The form as facts, both ways, and what an unused part holds.
-use mathlib.Core.Path.{_≡_, refl, ap, _∙_, subst}
+use mathlib.Core.Path.{_≡_, refl, sym, ap, _∙_, subst}
 use mathlib.Core.Logic.{_⊎_, inl, inr}
 use mathlib.Core.Bool.{Bool, true, false, not, _||_}
 use mathlib.Core.List.{List, [], _∷_}
@@ -13,8 +13,9 @@ use borrow.Author.Tests.{eq-eqb, ne-eqb, eqb-true, le-leb, leb-true, lt-ltb, ltb
 use Rattle.octets.specs.Octets.{allZero}
 use Rattle.octets.proofs.Scan.{clash, and-left, and-right, and-both}
 use Rattle.octets.proofs.Tests.{zero-zeros}
-use Rattle.groups.specs.Groups.{width, known, listed, marked, indexOf}
-use Rattle.record.specs.Layout.{runSize, linkSize, recordSize, noRun, noLink, noPeer, narrow, formOf, formIn, widthIn, counted}
+use Rattle.groups.specs.Groups.{width, known, listable, listed, marked, indexOf}
+use Rattle.groups.proofs.Laws.{listable-known, listable-narrow, listable-wide}
+use Rattle.record.specs.Layout.{runSize, linkSize, recordSize, noRun, noLink, noPeer, formOf, formIn, widthIn, groupsOf, counted}
 use Rattle.record.specs.declared.Form.{Form}
 use Rattle.record.specs.declared.Run.{Run}
 use Rattle.record.specs.declared.Link.{Link}
@@ -23,8 +24,8 @@ use Rattle.record.specs.declared.Geometry.{Geometry}
 use Rattle.record.specs.declared.Counts.{Counts}
 use Rattle.record.specs.declared.Settings.{Settings}
 use Rattle.record.specs.declared.Header.{Header}
-use Rattle.record.proofs.Laws.{ShapeRun, ShapeLink, ShapePeer, zero-run, zero-link, zero-peer, zeros-run, zeros-link, zeros-peer, form-known}
-use Rattle.soundness.specs.Soundness.{ownOk, usable, allKnown, eachOnce, groupsOk, settingsOk, geometryOk, headerOk, commitOk, tokenOk, rejectedOk, committedOk, confirmedOk, runOk, finishedOk, linkOk, freeOk, inUseOk, peerOk}
+use Rattle.record.proofs.Laws.{ShapeRun, ShapeLink, ShapePeer, zero-run, zero-link, zero-peer, zeros-run, zeros-link, zeros-peer, FormOf, is-narrow, is-wide, is-none, form-of, Served, form-served, form-groups, form-slots}
+use Rattle.soundness.specs.Soundness.{ownOk, usable, allListable, eachOnce, groupsOk, settingsOk, geometryOk, headerOk, commitOk, tokenOk, rejectedOk, committedOk, confirmedOk, runOk, finishedOk, linkOk, freeOk, inUseOk, peerOk}
 
 -- ---- unused parts
 
@@ -246,37 +247,41 @@ in-use-peer own gs high p f = rw (ne-eqb (p .used) 0 (λ e. omega (arith, f .use
 
 -- ---- the groups and the header
 
-pub record Groups (most n : ℕ) (gs : List ℕ) : Type 0 where
+pub record Groups (f : Form) (n : ℕ) (gs : List ℕ) : Type 0 where
   pub some : 1 ≤ n
-  pub few : n ≤ most
-  pub known : allKnown (take n gs) ≡ true
+  pub few : n ≤ f .groups
+  pub listable : allListable (f .width) (take n gs) ≡ true
   pub once : eachOnce (take n gs) ≡ true
   pub rest : allZero (drop n gs) ≡ true
 
-pub groups-form : (most n : ℕ) (gs : List ℕ) → groupsOk most n gs ≡ true → Groups most n gs
+pub groups-form : (f : Form) (n : ℕ) (gs : List ℕ) → groupsOk f n gs ≡ true → Groups f n gs
 unfolding groupsOk
-groups-form most n gs ok =
+groups-form f n gs ok =
     let k₁ = and-right (leb 1 n) _ ok in
-    let k₂ = and-right (leb n most) _ k₁ in
-    let k₃ = and-right (allKnown (take n gs)) _ k₂ in
-    record { some = leb-true _ _ (and-left _ _ ok); few = leb-true _ _ (and-left _ _ k₁); known = and-left _ _ k₂; once = and-left _ _ k₃; rest = and-right (eachOnce (take n gs)) _ k₃ }
+    let k₂ = and-right (leb n (f .groups)) _ k₁ in
+    let k₃ = and-right (allListable (f .width) (take n gs)) _ k₂ in
+    record { some = leb-true _ _ (and-left _ _ ok); few = leb-true _ _ (and-left _ _ k₁); listable = and-left _ _ k₂; once = and-left _ _ k₃; rest = and-right (eachOnce (take n gs)) _ k₃ }
 
--- a list of one or two groups
-pub groups-length : (most n : ℕ) (gs : List ℕ) → most ≤ 2 → length gs ≡ 3 → groupsOk most n gs ≡ true → length (take n gs) ≡ n
-groups-length most n gs h l ok = let f = groups-form most n gs ok in length-take-le n gs (omega (arith, f .few))
+pub form-groups-ok : (f : Form) (n : ℕ) (gs : List ℕ) → Groups f n gs → groupsOk f n gs ≡ true
+unfolding groupsOk
+form-groups-ok f n gs g = and-both _ _ (le-leb _ _ (g .some)) (and-both _ _ (le-leb _ _ (g .few)) (and-both _ _ (g .listable) (and-both _ _ (g .once) (g .rest))))
 
--- a listed group is a known one
-pub listed-known : (gs : List ℕ) (g : ℕ) → allKnown gs ≡ true → listed gs g ≡ true → known g ≡ true
-unfolding allKnown listed
-listed-known [] g a l = absurd (clash l refl)
-listed-known (x ∷ gs) g a l = go (eqb x g) refl l (λ m. listed-known gs g (and-right (known x) _ a) m)
+-- a list of one to three groups
+pub groups-length : (f : Form) (n : ℕ) (gs : List ℕ) → f .groups ≤ 3 → length gs ≡ 3 → groupsOk f n gs ≡ true → length (take n gs) ≡ n
+groups-length f n gs h l ok = let g = groups-form f n gs ok in length-take-le n gs (omega (arith, g .few))
+
+-- a listed group is a listable one
+pub listed-listable : (W : ℕ) (gs : List ℕ) (g : ℕ) → allListable W gs ≡ true → listed gs g ≡ true → listable W g ≡ true
+unfolding allListable listed
+listed-listable W [] g a l = absurd (clash l refl)
+listed-listable W (x ∷ gs) g a l = go (eqb x g) refl l (λ m. listed-listable W gs g (and-right (listable W x) _ a) m)
   where
-    go : (b : Bool) → eqb x g ≡ b → (b || listed gs g) ≡ true → (listed gs g ≡ true → known g ≡ true) → known g ≡ true
-    go true e m ih = subst (λ (y : ℕ). known y ≡ true) (eqb-true x g e) (and-left (known x) _ a)
+    go : (b : Bool) → eqb x g ≡ b → (b || listed gs g) ≡ true → (listed gs g ≡ true → listable W g ≡ true) → listable W g ≡ true
+    go true e m ih = subst (λ (y : ℕ). listable W y ≡ true) (eqb-true x g e) (and-left (listable W x) _ a)
     go false e m ih = ih m
 
 pub record SettingsForm (f : Form) (s : Settings) : Type 0 where
-  pub groups : groupsOk (f .groups) (s .count) (s .groups) ≡ true
+  pub groups : groupsOk f (s .count) (s .groups) ≡ true
   pub threshold : s .threshold ≤ 64
   pub period : s .period ≡ 0
   pub limit : s .limit ≡ 0
@@ -284,9 +289,13 @@ pub record SettingsForm (f : Form) (s : Settings) : Type 0 where
 pub settings-form : (f : Form) (s : Settings) → settingsOk f s ≡ true → SettingsForm f s
 unfolding settingsOk
 settings-form f s ok =
-    let k₁ = and-right (groupsOk (f .groups) (s .count) (s .groups)) _ ok in
+    let k₁ = and-right (groupsOk f (s .count) (s .groups)) _ ok in
     let k₂ = and-right (leb (s .threshold) 64) _ k₁ in
     record { groups = and-left _ _ ok; threshold = leb-true _ _ (and-left _ _ k₁); period = eqb-true _ _ (and-left _ _ k₂); limit = eqb-true _ _ (and-right (eqb (s .period) 0) _ k₂) }
+
+pub form-settings : (f : Form) (s : Settings) → SettingsForm f s → settingsOk f s ≡ true
+unfolding settingsOk
+form-settings f s g = and-both _ _ (g .groups) (and-both _ _ (le-leb _ _ (g .threshold)) (and-both _ _ (eq-eqb _ _ (g .period)) (eq-eqb _ _ (g .limit))))
 
 pub record GeometryForm (g : Geometry) : Type 0 where
   pub some : 1 ≤ g .slots
@@ -303,9 +312,9 @@ pub form-geometry : (g : Geometry) → GeometryForm g → geometryOk g ≡ true
 unfolding geometryOk
 form-geometry g f = and-both _ _ (le-leb _ _ (f .some)) (and-both _ _ (le-leb _ _ (f .few)) (eq-eqb _ _ (f .first)))
 
--- a geometry that has its form is of the one known
-pub geometry-known : (g : Geometry) → GeometryForm g → (g .size ≡ 864) × (formOf (g .size) ≡ narrow)
-geometry-known g f = form-known (g .size) (omega (arith, f .some, f .few))
+-- a geometry that has its form is of one that is served
+pub geometry-served : (g : Geometry) → GeometryForm g → Served (formOf (g .size))
+geometry-served g f = form-served (g .size) (omega (arith, f .some, f .few))
 
 pub record HeaderForm (h : Header) : Type 0 where
   pub geometry : GeometryForm (h .geometry)
@@ -324,16 +333,67 @@ pub form-header : (h : Header) → HeaderForm h → headerOk h ≡ true
 unfolding headerOk
 form-header h f = and-both _ _ (form-geometry _ (f .geometry)) (and-both _ _ (eq-eqb _ _ (f .spare)) (and-both _ _ (f .own) (f .settings)))
 
--- its form is the one known, its commits are stored with 144 octets, and it lists one or two groups
-pub header-known : (h : Header) → headerOk h ≡ true → formIn h ≡ narrow
-header-known h ok = geometry-known (h .geometry) (header-form h ok .geometry) .1
+-- its form is one that is served, and it lists groups that this form can store
+pub header-served : (h : Header) → headerOk h ≡ true → Served (formIn h)
+header-served h ok = geometry-served (h .geometry) (header-form h ok .geometry)
 
-pub header-width : (h : Header) → headerOk h ≡ true → widthIn h ≡ 144
-header-width h ok = ap (λ (f : Form). f .width) (header-known h ok)
+pub header-groups : (h : Header) → headerOk h ≡ true → Groups (formIn h) (h .settings .count) (h .settings .groups)
+header-groups h ok = groups-form (formIn h) _ _ (settings-form (formIn h) _ (header-form h ok .settings) .groups)
 
-pub header-groups : (h : Header) → headerOk h ≡ true → Groups 2 (h .settings .count) (h .settings .groups)
-header-groups h ok =
-    groups-form 2 _ _ (settings-form narrow _ (subst (λ (f : Form). settingsOk f (h .settings) ≡ true) (header-known h ok) (header-form h ok .settings)) .groups)
+-- numbers that hold in every form: 144 octets of a stored commit at least, three groups and 64 slots at most
+pub header-width : (h : Header) → headerOk h ≡ true → 144 ≤ widthIn h
+header-width h ok = header-served h ok .wide
+
+pub header-count : (h : Header) → headerOk h ≡ true → h .settings .count ≤ 3
+header-count h ok = omega (arith, header-groups h ok .few, form-groups (h .geometry .size))
+
+pub header-slots : (h : Header) → headerOk h ≡ true → h .geometry .slots ≤ 64
+header-slots h ok = omega (arith, header-form h ok .geometry .few, form-slots (h .geometry .size))
+
+-- a listed group has a length, and its commit has room in the form
+pub header-listed : (h : Header) → headerOk h ≡ true → (g : ℕ) → listed (groupsOf h) g ≡ true → listable (widthIn h) g ≡ true
+header-listed h ok g l = listed-listable (widthIn h) (groupsOf h) g (header-groups h ok .listable) l
+
+pub listed-known : (h : Header) → headerOk h ≡ true → (g : ℕ) → listed (groupsOf h) g ≡ true → known g ≡ true
+listed-known h ok g l = listable-known (widthIn h) g (header-listed h ok g l)
+
+-- ---- what the two forms allow, in the papers' numbers; a header of another record size does not have its form
+
+pub record NarrowHeader (h : Header) : Type 0 where
+  pub size : h .geometry .size ≡ 864
+  pub slots : h .geometry .slots ≤ 64
+  pub count : h .settings .count ≤ 2
+  pub groups : (g : ℕ) → listed (groupsOf h) g ≡ true → (eqb g 19 || eqb g 20) ≡ true
+
+pub record WideHeader (h : Header) : Type 0 where
+  pub size : h .geometry .size ≡ 1080
+  pub slots : h .geometry .slots ≤ 60
+  pub count : h .settings .count ≤ 3
+  pub groups : (g : ℕ) → listed (groupsOf h) g ≡ true → (eqb g 19 || (eqb g 20 || eqb g 21)) ≡ true
+
+pub header-forms : (h : Header) → headerOk h ≡ true → NarrowHeader h ⊎ WideHeader h
+header-forms h ok = go (form-of (h .geometry .size))
+  where
+    few : h .geometry .slots ≤ formIn h .slots
+    few = header-form h ok .geometry .few
+
+    listing : Groups (formIn h) (h .settings .count) (h .settings .groups)
+    listing = header-groups h ok
+
+    go : FormOf (h .geometry .size) → NarrowHeader h ⊎ WideHeader h
+    go (is-narrow e f) = inl (record {
+      size = e;
+      slots = subst (λ (x : Form). h .geometry .slots ≤ x .slots) f few;
+      count = subst (λ (x : Form). h .settings .count ≤ x .groups) f (listing .few);
+      groups = λ g l. sym (listable-narrow g) ∙ subst (λ (x : Form). listable (x .width) g ≡ true) f (header-listed h ok g l);
+    })
+    go (is-wide e f) = inr (record {
+      size = e;
+      slots = subst (λ (x : Form). h .geometry .slots ≤ x .slots) f few;
+      count = subst (λ (x : Form). h .settings .count ≤ x .groups) f (listing .few);
+      groups = λ g l. sym (listable-wide g) ∙ subst (λ (x : Form). listable (x .width) g ≡ true) f (header-listed h ok g l);
+    })
+    go (is-none f) = absurd (let z : h .geometry .slots ≤ 0 = subst (λ (x : Form). h .geometry .slots ≤ x .slots) f few in omega (arith, z, header-form h ok .geometry .some))
 
 -- the counts are not looked at
 pub header-counted : (h : Header) (n : Counts) → headerOk (counted h n) ≡ headerOk h

@@ -1,20 +1,17 @@
 -- A record that has its form is stored without loss with every width that has room for the listed groups: whoever keeps the form need not know of a width.
 use mathlib.Core.Path.{_≡_, refl, sym, ap, _∙_, subst}
 use mathlib.Core.Logic.{inl, inr}
-use mathlib.Core.Bool.{Bool, true, false, _||_}
+use mathlib.Core.Bool.{true}
 use mathlib.Core.List.{List}
 use Prim.Native.Nat.{ℕ, _+_, _-_, _≤_}
 use native.Mathlib.Omega.{arith}
 use native.Mathlib.Decide.{ℕ-discrete}
-use lib.Dec.{eqb}
 use lib.ListN.{length, drop, replicate, length-replicate}
 use lib.Seq.{drop-drop}
 use Rattle.octets.specs.Octets.{allZero}
-use Rattle.octets.specs.Scan.{if_then_else_}
-use Rattle.octets.proofs.Scan.{clash}
 use Rattle.octets.proofs.Tests.{zero-is, zero-zeros}
-use Rattle.groups.specs.Groups.{width, scalarLength, elementLength, commitLength, known, listed, Storable}
-use Rattle.groups.proofs.Laws.{drop-zeros, storable-zeros}
+use Rattle.groups.specs.Groups.{width, commitLength, listed, Storable}
+use Rattle.groups.proofs.Laws.{drop-zeros, storable-zeros, listable-room}
 use Rattle.record.specs.Layout.{widthIn, groupsOf, noRun, noLink, noPeer}
 use Rattle.record.specs.declared.Run.{Run}
 use Rattle.record.specs.declared.Link.{Link}
@@ -22,7 +19,7 @@ use Rattle.record.specs.declared.Peer.{Peer}
 use Rattle.record.specs.declared.Header.{Header}
 use Rattle.record.proofs.Laws.{ShapeRun, ShapeLink, ShapePeer, StorableRun, StorableLink, StorablePeer, form-width}
 use Rattle.soundness.specs.Soundness.{commitOk, runOk, linkOk, peerOk, headerOk}
-use Rattle.soundness.proofs.Laws.{run-unused, link-unused, peer-unused, run-states, run-is-committed, run-is-confirmed, link-is-finished, peer-in-use, listed-known, header-width, header-groups}
+use Rattle.soundness.proofs.Laws.{run-unused, link-unused, peer-unused, run-states, run-is-committed, run-is-confirmed, link-is-finished, peer-in-use, header-listed}
 
 -- a width that has room for every listed group
 pub record Room (W : ℕ) (gs : List ℕ) : Type 0 where
@@ -87,17 +84,5 @@ module _ (W : ℕ) (gs : List ℕ) (R : Room W gs) where
 
 -- ---- the width of a header that has its form has room for its groups
 
-known-length : (g : ℕ) → known g ≡ true → commitLength g ≤ 144
-unfolding known commitLength scalarLength elementLength
-known-length g k = go (eqb g 19) (eqb g 20) k
-  where
-    go : (a b : Bool) → (a || b) ≡ true → (if a then 32 else if b then 48 else 0) + (if a then 64 else if b then 96 else 0) ≤ 144
-    go true b k = omega arith
-    go false true k = omega arith
-    go false false k = absurd (clash k refl)
-
 pub header-room : (h : Header) → headerOk h ≡ true → Room (widthIn h) (groupsOf h)
-header-room h ok = record {
-  most = form-width (h .geometry .size);
-  each = λ g l. subst (λ (n : ℕ). commitLength g ≤ n) (sym (header-width h ok)) (known-length g (listed-known (groupsOf h) g (header-groups h ok .known) l));
-}
+header-room h ok = record { most = form-width (h .geometry .size); each = λ g l. listable-room (widthIn h) g (header-listed h ok g l) }

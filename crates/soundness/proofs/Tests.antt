@@ -6,20 +6,24 @@ use Prim.Native.Nat.{ℕ, zero, suc, _+_, _-_, _*_, _/_, _^_, _≤_, _<_}
 use native.Mathlib.Omega.{arith}
 use native.Mathlib.Nat.{one-le-pow, div-lt-iff-lt-mul, le-div-iff-mul-le}
 use native.Mathlib.Decide.{ℕ-discrete}
-use lib.Dec.{eqb, ltb, lit<}
+use lib.Dec.{eqb, leb, ltb, lit<}
 use lib.ListN.{length, take, drop, getD}
 use borrow.Author.Tests.{eq-eqb, ne-eqb, le-leb, lt-leb, lt-ltb, le-ltb}
 use Rattle.octets.specs.Octets.{part, num, allZero, Bytes}
 use Rattle.octets.specs.Scan.{allBelow}
-use Rattle.octets.proofs.Laws.{length-part, part-all}
-use Rattle.octets.proofs.Tests.{zero-past}
-use Rattle.groups.specs.Groups.{width, known, listed}
+use Rattle.octets.specs.declared.Found.{Found}
+use Rattle.octets.specs.declared.Found.the-variants.{At, Nothing}
+use Rattle.octets.proofs.Laws.{part-all}
+use Rattle.groups.specs.Groups.{width, listable, listed, place, indexOf, marked, stored}
+use Rattle.groups.proofs.Laws.{stored-zeros, stored-zero, listed-place}
 use Rattle.record.specs.Codec.{cut}
-use Rattle.record.specs.Layout.{decodeRun, decodeLink, decodePeer, runSize, linkSize, recordSize, linkAt, runOf, runWidths, linkOf, linkWidths}
+use Rattle.record.specs.Layout.{decodeRun, decodeLink, decodePeer, runSize, linkSize, recordSize, linkAt, runPeerAt, runTokenAt, runOf, runWidths, linkOf, linkWidths}
+use Rattle.record.specs.declared.Form.{Form}
+use Rattle.record.specs.declared.Run.{Run}
 use Rattle.record.specs.declared.Peer.{Peer}
 use Rattle.record.proofs.Laws.{zero-run-test, zero-link-test, zero-peer-test, peer-at, three-is}
 use Rattle.record.proofs.Windows.{state-law, finished-law, address-law, run-window, link-window}
-use Rattle.soundness.specs.Soundness.{groupsOk, allKnown, eachOnce, committedOk, confirmedOk, finishedOk, runOk, linkOk, usable, inUseOk, freeOk, peerOk}
+use Rattle.soundness.specs.Soundness.{groupsOk, allListable, eachOnce, commitOk, tokenOk, rejectedOk, committedOk, confirmedOk, finishedOk, runOk, linkOk, usable, inUseOk, freeOk, peerOk}
 
 -- ---- no mark past the listed groups
 
@@ -43,11 +47,21 @@ none-past x n = elim (ℕ-discrete (x / 2 ^ n) 0) [
 pub tail-all : (s : List ℕ) (at n m : ℕ) (r : Bool) → n ≡ 0 → r ≡ allZero (part s at m) → r ≡ allZero (drop n (part s at m))
 tail-all s at n m r e q = rw e q
 
-pub tail-past : (s : List ℕ) (at n m : ℕ) → at + m ≤ length s → m < n → true ≡ allZero (drop n (part s at m))
-tail-past s at n m h k = zero-past (part s at m) n (rw (length-part s at m h) k)
+pub tail-stored : (s : List ℕ) (at n m : ℕ) (r : Bool) → r ≡ allZero (drop n (stored (part s at m))) → r ≡ allZero (drop n (part s at m))
+tail-stored s at n m r q = q ∙ stored-zeros (part s at m) n
 
 pub zero-whole : (s : List ℕ) (n : ℕ) (r : Bool) → length s ≡ n → r ≡ allZero (part s 0 n) → r ≡ allZero s
 zero-whole s n r e q = q ∙ ap allZero (part-all s n e)
+
+pub zero-length : (s : List ℕ) (r : Bool) → r ≡ allZero (drop 0 (stored (part s 0 (length s)))) → r ≡ allZero s
+zero-length s r q = zero-whole s (length s) r refl (tail-stored s 0 0 (length s) r q)
+
+-- the peer's commit of a run, from where it begins to the token
+pub peer-zeros : (W at end : ℕ) (s : List ℕ) (r : Bool) → at ≡ runPeerAt W → end ≡ runTokenAt W → r ≡ allZero (take (end - at) (drop at s)) → r ≡ allZero (decodeRun W s .peer)
+unfolding decodeRun runOf runWidths cut part
+peer-zeros W at end s r e f q =
+    let m : end - at ≡ W = omega arith in
+    q ∙ ap (λ (n : ℕ). allZero (take n (drop at s))) m ∙ ap (λ (n : ℕ). allZero (take W (drop n s))) e ∙ sym (stored-zero (take W (drop (13 + W) s)))
 
 -- ---- groups
 
@@ -77,35 +91,85 @@ eqb-sym a b = elim (ℕ-discrete a b) [
   | no d ↦ ne-eqb a b d ∙ sym (ne-eqb b a (λ q. d (sym q)))
 ]
 
-groups-one : (most a b c : ℕ) → 1 ≤ most → groupsOk most 1 (a ∷ b ∷ c ∷ []) ≡ (known a && (eqb b 0 && eqb c 0))
-unfolding groupsOk allKnown eachOnce listed
-groups-one most a b c h = rw (le-leb 1 most h, and-true (known a), zero-two b c) refl
+-- of three things no two are the same
+once-three : (x y z : Bool) → (not (x || (y || false)) && (not (z || false) && true)) ≡ (not x && (not y && not z))
+once-three true y z = refl
+once-three false true z = refl
+once-three false false true = refl
+once-three false false false = refl
 
-groups-two : (most a b c : ℕ) → 2 ≤ most → groupsOk most 2 (a ∷ b ∷ c ∷ []) ≡ ((known a && known b) && (not (eqb a b) && eqb c 0))
-unfolding groupsOk allKnown eachOnce listed
-groups-two most a b c h = rw (le-leb 2 most h, and-true (known b), or-false (eqb b a), eqb-sym b a, and-true (not (eqb a b)), zero-one c) refl
+module _ (f : Form) (a b c : ℕ) where
+  groups-one : 1 ≤ f .groups → groupsOk f 1 (a ∷ b ∷ c ∷ []) ≡ (listable (f .width) a && (eqb b 0 && eqb c 0))
+  unfolding groupsOk allListable eachOnce listed
+  groups-one h = rw (le-leb 1 (f .groups) h, and-true (listable (f .width) a), zero-two b c) refl
 
-groups-none : (most : ℕ) (gs : List ℕ) → groupsOk most 0 gs ≡ false
+  groups-two : 2 ≤ f .groups → groupsOk f 2 (a ∷ b ∷ c ∷ []) ≡ ((listable (f .width) a && listable (f .width) b) && (not (eqb a b) && eqb c 0))
+  unfolding groupsOk allListable eachOnce listed
+  groups-two h = rw (le-leb 2 (f .groups) h, and-true (listable (f .width) b), or-false (eqb b a), eqb-sym b a, and-true (not (eqb a b)), zero-one c) refl
+
+  groups-three : 3 ≤ f .groups → groupsOk f 3 (a ∷ b ∷ c ∷ []) ≡ ((listable (f .width) a && (listable (f .width) b && listable (f .width) c)) && (not (eqb a b) && (not (eqb a c) && not (eqb b c))))
+  unfolding groupsOk allListable eachOnce listed allZero allBelow
+  groups-three h =
+      rw (le-leb 3 (f .groups) h, and-true (listable (f .width) c), eqb-sym b a, eqb-sym c a, eqb-sym c b, and-true (not (eqb a b || (eqb a c || false)) && (not (eqb b c || false) && true)), once-three (eqb a b) (eqb a c) (eqb b c)) refl
+
+groups-none : (f : Form) (gs : List ℕ) → groupsOk f 0 gs ≡ false
 unfolding groupsOk
-groups-none most gs = refl
+groups-none f gs = refl
 
-pub groups-more : (most n : ℕ) (gs : List ℕ) → most < n → false ≡ groupsOk most n gs
+pub groups-more : (f : Form) (n : ℕ) (gs : List ℕ) → f .groups < n → false ≡ groupsOk f n gs
 unfolding groupsOk
-groups-more most n gs h = sym (rw (le-leb 1 n (omega arith), lt-leb n most h) refl)
+groups-more f n gs h = sym (rw (le-leb 1 n (omega arith), lt-leb n (f .groups) h) refl)
 
-module _ (most n : ℕ) (gs : List ℕ) (l : length gs ≡ 3) (h : n ≤ most) where
-  pub groups-is-one : (k : Bool) → n ≡ 1 → k ≡ known (getD gs 0 0) → (k && (eqb (getD gs 1 0) 0 && eqb (getD gs 2 0) 0)) ≡ groupsOk most n gs
-  groups-is-one k e p =
-      rw (e, p) (sym (ap (groupsOk most 1) (sym (three-is gs l)) ∙ groups-one most (getD gs 0 0) (getD gs 1 0) (getD gs 2 0) (omega arith)))
+module _ (f : Form) (n : ℕ) (gs : List ℕ) (l : length gs ≡ 3) (h : n ≤ f .groups) (W : ℕ) (w : W ≡ f .width) (j : Bool) (p : j ≡ listable W (getD gs 0 0)) where
+  pub groups-is-one : n ≡ 1 → (j && (eqb (getD gs 1 0) 0 && eqb (getD gs 2 0) 0)) ≡ groupsOk f n gs
+  groups-is-one e =
+      rw (e, p, w) (sym (ap (groupsOk f 1) (sym (three-is gs l)) ∙ groups-one f (getD gs 0 0) (getD gs 1 0) (getD gs 2 0) (omega arith)))
 
-  pub groups-is-two : (j k : Bool) → n ≡ 2 → j ≡ known (getD gs 0 0) → k ≡ known (getD gs 1 0)
-      → ((j && k) && (not (eqb (getD gs 0 0) (getD gs 1 0)) && eqb (getD gs 2 0) 0)) ≡ groupsOk most n gs
-  groups-is-two j k e p q =
-      rw (e, p, q) (sym (ap (groupsOk most 2) (sym (three-is gs l)) ∙ groups-two most (getD gs 0 0) (getD gs 1 0) (getD gs 2 0) (omega arith)))
+  module _ (k : Bool) (q : k ≡ listable W (getD gs 1 0)) where
+    pub groups-is-two : n ≡ 2 → ((j && k) && (not (eqb (getD gs 0 0) (getD gs 1 0)) && eqb (getD gs 2 0) 0)) ≡ groupsOk f n gs
+    groups-is-two e =
+        rw (e, p, q, w) (sym (ap (groupsOk f 2) (sym (three-is gs l)) ∙ groups-two f (getD gs 0 0) (getD gs 1 0) (getD gs 2 0) (omega arith)))
 
-pub groups-else : (most n : ℕ) (gs : List ℕ) → most ≤ 2 → (n ≡ 1 → ⊥) → (n ≡ 2 → ⊥) → false ≡ groupsOk most n gs
-groups-else most zero gs h p q = sym (groups-none most gs)
-groups-else most (suc n) gs h p q = groups-more most (suc n) gs (omega arith)
+    pub groups-is-three : (i : Bool) → n ≡ 3 → i ≡ listable W (getD gs 2 0)
+        → ((j && (k && i)) && (not (eqb (getD gs 0 0) (getD gs 1 0)) && (not (eqb (getD gs 0 0) (getD gs 2 0)) && not (eqb (getD gs 1 0) (getD gs 2 0))))) ≡ groupsOk f n gs
+    groups-is-three i e r =
+        rw (e, p, q, r, w) (sym (ap (groupsOk f 3) (sym (three-is gs l)) ∙ groups-three f (getD gs 0 0) (getD gs 1 0) (getD gs 2 0) (omega arith)))
+
+pub groups-else : (f : Form) (n : ℕ) (gs : List ℕ) → f .groups ≤ 3 → (n ≡ 1 → ⊥) → (n ≡ 2 → ⊥) → (n ≡ 3 → ⊥) → false ≡ groupsOk f n gs
+groups-else f zero gs h p q r = sym (groups-none f gs)
+groups-else f (suc n) gs h p q r = groups-more f (suc n) gs (omega arith)
+
+-- ---- a listed group, the marks and the rest of a run in Committed
+
+-- the marks by the place of the run's group
+module _ (gs : List ℕ) (r : Run) (rejected group : ℕ) (f : Found) (k : rejected ≡ r .rejected) (g : group ≡ r .group) (e : f ≡ place gs group) where
+  pub marks-at : (i past : ℕ) (own : Bool) → f ≡ At i → own ≡ marked rejected i → past ≡ rejected / 2 ^ length gs
+      → (eqb past 0 && not own) ≡ (listed gs (r .group) && rejectedOk gs r)
+  unfolding rejectedOk indexOf
+  marks-at i past own q o p =
+      let z : place gs (r .group) ≡ At i = ap (place gs) (sym g) ∙ sym e ∙ q in
+      rw (listed-place gs (r .group), z, p, o, k, none-past (r .rejected) (length gs)) refl
+
+  pub marks-none : f ≡ Nothing → false ≡ (listed gs (r .group) && rejectedOk gs r)
+  marks-none q =
+      let z : place gs (r .group) ≡ Nothing = ap (place gs) (sym g) ∙ sym e ∙ q in
+      sym (rw (listed-place gs (r .group), z) refl)
+
+-- the group's test stands before the others'
+group-first : (a j c l t : Bool) → (a && ((l && j) && (c && t))) ≡ (a && (j && (c && (l && t))))
+group-first true true true true t = refl
+group-first true true true false t = refl
+group-first true true false true t = refl
+group-first true true false false t = refl
+group-first true false c true t = refl
+group-first true false c false t = refl
+group-first false j c l t = refl
+
+pub committed-by : (gs : List ℕ) (high : ℕ) (r : Run)
+    → (leb (r .sync) high && ((listed gs (r .group) && rejectedOk gs r) && (eqb (r .sc) 0 && (tokenOk r && (commitOk (r .group) (r .own) && allZero (r .peer)))))) ≡ committedOk gs high r
+unfolding committedOk
+committed-by gs high r =
+    group-first (leb (r .sync) high) (rejectedOk gs r) (eqb (r .sc) 0) (listed gs (r .group)) (tokenOk r && (commitOk (r .group) (r .own) && allZero (r .peer)))
 
 -- ---- the state decides which test it is
 

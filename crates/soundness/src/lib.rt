@@ -1,11 +1,13 @@
 // The form of a header and of a record, tested where their octets lie.
 ghost use mathlib.Core.Path.{_≡_};
+ghost use mathlib.Core.Bool.{_&&_};
 ghost use Prim.Native.Nat.{_+_, _≤_};
 ghost use lib.ListN.{length, drop};
 ghost use Rattle.octets.specs.Octets.{part, allZero};
-ghost use Rattle.groups.specs.Groups.{width};
+ghost use Rattle.groups.specs.Groups.{width, listed};
 ghost use Rattle.record.specs.Layout.{runSize, linkSize, recordSize, formOf, decodeRun, decodeLink, decodePeer};
 ghost use Rattle.soundness.specs.Soundness.{ownOk, usable, groupsOk, settingsOk, geometryOk, headerOk, rejectedOk, tokenOk, committedOk, confirmedOk, runOk, finishedOk, linkOk, inUseOk, peerOk};
+use octets::Found;
 use record::ADDRESS;
 use record::FINISHED;
 use record::Form;
@@ -19,6 +21,7 @@ use record::LINK_SYNC;
 use record::NARROW_LINK;
 use record::NARROW_RECORD;
 use record::NARROW_RUN;
+use record::NARROW_WIDTH;
 use record::REJECTED;
 use record::RUN;
 use record::RUN_OWN;
@@ -31,6 +34,10 @@ use record::Settings;
 use record::TOKEN;
 use record::TOKLEN;
 use record::USED;
+use record::WIDE_LINK;
+use record::WIDE_RECORD;
+use record::WIDE_RUN;
+use record::WIDE_WIDTH;
 
 pub fn own_ok(own: [u8; 6]) -> bool
     ensures { λ r. ⌜ r ≡ ownOk own ⌝ }
@@ -50,34 +57,39 @@ pub fn is_usable(own: [u8; 6], a: [u8; 6]) -> bool
     individual & (!zero & !same)
 }
 
-// One or two known groups, no more than the form has room for, each once, and no entry past the count.
-pub fn groups_ok(most: u8, n: u8, gs: [u16; 3]) -> bool
-    requires { ⌜ most ≤ 2 ⌝ }
-    ensures { λ r. ⌜ r ≡ groupsOk most n gs ⌝ }
+// One to three groups, no more than the form has places for, each one that it can store, each once, and no entry past the count.
+pub fn groups_ok(form: Form, n: u8, gs: [u16; 3]) -> bool
+    requires { ⌜ form .groups ≤ 3 ⌝ }
+    ensures { λ r. ⌜ r ≡ groupsOk form n gs ⌝ }
 {
-    if most < n {
+    if form.groups < n {
         return false;
     }
+    let w = form.width;
     let a = gs[0];
     let b = gs[1];
     let c = gs[2];
-    let first = groups::is_known(a);
+    let first = groups::is_listable(a, w);
     if n == 1 {
         return first & ((b == 0) & (c == 0));
     }
+    let second = groups::is_listable(b, w);
     if n == 2 {
-        let second = groups::is_known(b);
         return (first & second) & ((a != b) & (c == 0));
+    }
+    if n == 3 {
+        let third = groups::is_listable(c, w);
+        return (first & (second & third)) & ((a != b) & ((a != c) & (b != c)));
     }
     false
 }
 
 pub fn settings_ok(form: Form, s: Settings) -> bool
-    requires { ⌜ form .groups ≤ 2 ⌝ }
+    requires { ⌜ form .groups ≤ 3 ⌝ }
     ensures { λ r. ⌜ r ≡ settingsOk form s ⌝ }
 {
     let gs = s.groups;
-    let groups = groups_ok(form.groups, s.count, gs);
+    let groups = groups_ok(form, s.count, gs);
     groups & ((s.threshold <= 64) & ((s.period == 0) & (s.limit == 0)))
 }
 
@@ -110,33 +122,40 @@ fn zero_tail(s: &[u8], at: usize, n: usize, m: usize) -> bool
     if n == 0 {
         return octets::zero_part(s, at, m);
     }
-    if m < n {
-        return true;
-    }
-    octets::zero_part(s, at + n, m - n)
+    groups::zero_past(s, at, m, n)
 }
 
-// Every octet is zero. Where the length is the one expected, the compiler knows how many octets it looks at.
-fn zero_all(s: &[u8], n: usize) -> bool
+// Every octet is zero. Where the length is one of the two that the forms have, the compiler knows how many octets it looks at.
+fn zero_all(s: &[u8], narrow: usize, wide: usize) -> bool
     ensures { λ r. ⌜ r ≡ allZero (now (s .entry)) ⌝ }
 {
-    if s.len() == n {
-        return octets::zero_part(s, 0, n);
+    let n = s.len();
+    if n == narrow {
+        return octets::zero_part(s, 0, narrow);
     }
-    octets::all_zero(s)
+    if n == wide {
+        return octets::zero_part(s, 0, wide);
+    }
+    groups::zero_past(s, 0, n, 0)
 }
 
-// The rejected groups are listed ones, and the run's own is not among them.
+// In each of the tests that follow the commits come first, and what is read from a field stands behind them: it need not be kept over the calls.
+
+// The run's group is a listed one, the rejected groups are, and the run's own is not among them: one search in the list.
 fn rejected_ok(s: &[u8], w: usize, groups: &[u16]) -> bool
-    requires { ⌜ (length (now s) ≡ runSize w) × ((1 ≤ length (now groups)) × (length (now groups) ≤ 8)) ⌝ }
-    ensures { λ r. ⌜ r ≡ rejectedOk (now (groups .entry)) (decodeRun w (now (s .entry))) ⌝ }
+    requires { ⌜ length (now s) ≡ runSize w ⌝ }
+    ensures { λ r. ⌜ r ≡ (listed (now (groups .entry)) (decodeRun w (now (s .entry)) .group) && rejectedOk (now (groups .entry)) (decodeRun w (now (s .entry)))) ⌝ }
 {
     let rejected = octets::get8(s, REJECTED);
     let group = octets::get16(s, GROUP);
-    let i = groups::index_of(groups, group);
-    let own = groups::is_marked(rejected, i);
-    let past = groups::marks_from(rejected, groups.len());
-    (past == 0) & !own
+    match groups::place_of(groups, group) {
+        Found::At(i) => {
+            let own = groups::is_marked(rejected, i);
+            let past = groups::marks_from(rejected, groups.len());
+            (past == 0) & !own
+        }
+        Found::Nothing => false,
+    }
 }
 
 fn token_ok(s: &[u8], w: usize) -> bool
@@ -153,33 +172,33 @@ fn committed_ok(s: &[u8], w: usize, groups: &[u16], high: u8) -> bool
     requires { ⌜ (length (now s) ≡ runSize w) × ((w ≤ width) × ((1 ≤ length (now groups)) × (length (now groups) ≤ 8))) ⌝ }
     ensures { λ r. ⌜ r ≡ committedOk (now (groups .entry)) high (decodeRun w (now (s .entry))) ⌝ }
 {
-    let sync = octets::get8(s, SYNC);
-    let sc = octets::get16(s, SC);
     let group = octets::get16(s, GROUP);
-    let rejected = rejected_ok(s, w, groups);
-    let listed = groups::is_listed(groups, group);
-    let token = token_ok(s, w);
     let n = groups::commit_length(group);
     let at = record::run_peer_at(w);
+    let end = record::run_token_at(w);
     let own = groups::zero_past(s, RUN_OWN, w, n);
-    let peer = groups::zero_past(s, at, w, 0);
-    (sync <= high) & (rejected & ((sc == 0) & (listed & (token & (own & peer)))))
+    let peer = zero_all(&s[at..end], NARROW_WIDTH, WIDE_WIDTH);
+    let token = token_ok(s, w);
+    let rejected = rejected_ok(s, w, groups);
+    let sync = octets::get8(s, SYNC);
+    let sc = octets::get16(s, SC);
+    (sync <= high) & (rejected & ((sc == 0) & (token & (own & peer))))
 }
 
 fn confirmed_ok(s: &[u8], w: usize, groups: &[u16], high: u8) -> bool
     requires { ⌜ (length (now s) ≡ runSize w) × (w ≤ width) ⌝ }
     ensures { λ r. ⌜ r ≡ confirmedOk (now (groups .entry)) high (decodeRun w (now (s .entry))) ⌝ }
 {
-    let sync = octets::get8(s, SYNC);
-    let rejected = octets::get8(s, REJECTED);
-    let sc = octets::get16(s, SC);
     let group = octets::get16(s, GROUP);
-    let listed = groups::is_listed(groups, group);
-    let token = token_ok(s, w);
     let n = groups::commit_length(group);
     let at = record::run_peer_at(w);
     let own = groups::zero_past(s, RUN_OWN, w, n);
     let peer = groups::zero_past(s, at, w, n);
+    let token = token_ok(s, w);
+    let listed = groups::is_listed(groups, group);
+    let sync = octets::get8(s, SYNC);
+    let rejected = octets::get8(s, REJECTED);
+    let sc = octets::get16(s, SC);
     (sync <= high)
         & ((rejected == 0) & ((sc == sync as u16 + 1) & (listed & (token & (own & peer)))))
 }
@@ -191,7 +210,7 @@ pub fn run_ok(s: &[u8], w: usize, groups: &[u16], high: u8) -> bool
 {
     let state = octets::get8(s, STATE);
     if state == 0 {
-        return zero_all(s, NARROW_RUN);
+        return zero_all(s, NARROW_RUN, WIDE_RUN);
     }
     if state == 1 {
         return committed_ok(s, w, groups, high);
@@ -206,16 +225,16 @@ fn finished_ok(s: &[u8], w: usize, groups: &[u16], high: u8) -> bool
     requires { ⌜ (length (now s) ≡ linkSize w) × (w ≤ width) ⌝ }
     ensures { λ r. ⌜ r ≡ finishedOk (now (groups .entry)) high (decodeLink w (now (s .entry))) ⌝ }
 {
-    let finished = octets::get8(s, FINISHED);
-    let superseded = octets::get8(s, SUPERSEDED);
-    let sync = octets::get8(s, LINK_SYNC);
-    let spare = octets::get8(s, SPARE);
     let group = octets::get16(s, LINK_GROUP);
-    let listed = groups::is_listed(groups, group);
     let n = groups::commit_length(group);
     let at = record::link_peer_at(w);
     let own = groups::zero_past(s, LINK_OWN, w, n);
     let peer = groups::zero_past(s, at, w, n);
+    let listed = groups::is_listed(groups, group);
+    let finished = octets::get8(s, FINISHED);
+    let superseded = octets::get8(s, SUPERSEDED);
+    let sync = octets::get8(s, LINK_SYNC);
+    let spare = octets::get8(s, SPARE);
     (finished == 1)
         & ((superseded <= 1) & ((sync <= high) & ((spare == 0) & (listed & (own & peer)))))
 }
@@ -227,7 +246,7 @@ pub fn link_ok(s: &[u8], w: usize, groups: &[u16], high: u8) -> bool
 {
     let finished = octets::get8(s, FINISHED);
     if finished == 0 {
-        return zero_all(s, NARROW_LINK);
+        return zero_all(s, NARROW_LINK, WIDE_LINK);
     }
     finished_ok(s, w, groups, high)
 }
@@ -238,13 +257,13 @@ fn in_use_ok(s: &[u8], w: usize, own: [u8; 6], groups: &[u16], high: u8) -> bool
 {
     let at = record::link_at(w);
     let end = record::record_size(w);
+    let run = run_ok(&s[RUN..at], w, groups, high);
+    let link = link_ok(&s[at..end], w, groups, high);
     let used = octets::get8(s, USED);
     let address = octets::take6(s, ADDRESS);
     let state = octets::get8(s, RUN + STATE);
     let finished = octets::get8(s, at + FINISHED);
     let usable = is_usable(own, address);
-    let run = run_ok(&s[RUN..at], w, groups, high);
-    let link = link_ok(&s[at..end], w, groups, high);
     (used == 1) & (usable & (run & (link & ((state != 0) | (finished != 0)))))
 }
 
@@ -255,7 +274,7 @@ pub fn peer_ok(s: &[u8], w: usize, own: [u8; 6], groups: &[u16], high: u8) -> bo
 {
     let used = octets::get8(s, USED);
     if used == 0 {
-        return zero_all(s, NARROW_RECORD);
+        return zero_all(s, NARROW_RECORD, WIDE_RECORD);
     }
     in_use_ok(s, w, own, groups, high)
 }

@@ -16,7 +16,6 @@ use Rattle.octets.specs.Scan.{if_then_else_, allBelow, countBelow, firstBelow, 
 use Rattle.octets.specs.declared.Found.{Found}
 use Rattle.octets.specs.declared.Found.the-variants.{At, Nothing}
 use Rattle.octets.proofs.Scan.{cases, clash, and-left, and-right, and-both, all-true, all-of, first-at, first-nothing, last-at, count-but, count-le, bit-le}
-use Rattle.record.specs.declared.Form.{Form}
 use Rattle.record.specs.declared.Peer.{Peer}
 use Rattle.record.specs.declared.Counts.{Counts}
 use Rattle.record.specs.declared.Header.{Header}
@@ -24,7 +23,7 @@ use Rattle.groups.specs.Groups.{width}
 use Rattle.record.specs.Layout.{widthIn, recordSize, recordAt, groupsOf, limitOf}
 use Rattle.record.proofs.Laws.{record-below}
 use Rattle.soundness.specs.Soundness.{usable, headerOk, highSync, peerOk}
-use Rattle.soundness.proofs.Laws.{header-form, settings-form, header-groups, header-known}
+use Rattle.soundness.proofs.Laws.{header-form, settings-form, header-groups, header-count, header-slots}
 use Rattle.table.specs.Table.{Table, widthOf, decodeTable, slot, slots, inUse, isOpen, belongs, alone, slotsOk, addressesOk, countsOk, sound, usedCount, openCount, countsOf, finds, freeSlot, entry, foundEntry, withPeer, standingOf, Changed, Ready, Whole, Reaches, Reached, Sized, Looked, Enters}
 use Rattle.table.specs.declared.Entrance.{Entrance}
 use Rattle.table.specs.declared.Standing.{Standing}
@@ -46,10 +45,6 @@ counts-true T ok =
 factory-low : {entry : ℕ} → entry ≡ 0 → limitOf entry + 1 < 256
 unfolding limitOf
 factory-low e = rw e (lit< tt)
-
--- a header of the right form has at most 64 slots
-slots-few : (h : Header) → headerOk h ≡ true → h .geometry .slots ≤ 64
-slots-few h ok = subst (λ (f : Form). h .geometry .slots ≤ f .slots) (header-known h ok) (header-form h ok .geometry .few)
 
 -- what soundness says
 module _ (t : List ℕ) (s : sound t ≡ true) where
@@ -86,7 +81,7 @@ module _ (t : List ℕ) (s : sound t ≡ true) where
   sound-counts = and-right (addressesOk (decodeTable t)) _ after-slots
 
   pub sound-small : slots (decodeTable t) ≤ 64
-  sound-small = slots-few (decodeTable t .header) sound-header
+  sound-small = header-slots (decodeTable t .header) sound-header
 
   -- A RECORD OF A SOUND TABLE has its form
   pub sound-peer : (k : ℕ) → k < slots (decodeTable t) → peerOk (decodeTable t .header .own) (groupsOf (decodeTable t .header)) (highSync (decodeTable t .header)) (slot (decodeTable t) k) ≡ true
@@ -156,9 +151,9 @@ module _ (t : List ℕ) (h : Header) (e : h ≡ decodeTable t .header) where
         long = rw c (omega (arith, l, by-header w n ew en));
         header = e;
         slots = c;
-        few = slots-few h y;
+        few = header-slots h y;
         some = g .some;
-        most = omega (arith, g .few);
+        most = header-count h y;
         low = factory-low (s .limit);
       }
 

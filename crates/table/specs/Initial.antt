@@ -8,40 +8,41 @@ use Rattle.octets.specs.Scan.{if_then_else_}
 use Rattle.record.specs.declared.Header.{Header}
 use Rattle.record.specs.declared.Settings.{Settings}
 use Rattle.record.specs.declared.Form.{Form}
-use Rattle.record.specs.Layout.{narrow, recordAt, noPeer}
+use Rattle.record.specs.Layout.{wide, recordAt, noPeer}
 use Rattle.soundness.specs.Soundness.{ownOk, settingsOk}
 use Rattle.table.specs.Table.{Table, encodeTable}
 
--- the form that set up makes
+-- "Set up makes this form": the one with records of 1,080 octets. A fresh table of the form of 864 is the same but for its form, so that all below is
+-- said of a form f.
 abbrev pub made : Form
-made = narrow
+made = wide
 
 -- the number of slots that a length has room for
-unfoldable pub slotsFor : ℕ → ℕ
-slotsFor n = (n - 32) / made .size
+unfoldable pub slotsFor : Form → ℕ → ℕ
+slotsFor f n = (n - 32) / f .size
 
--- "slots N (1 to 64). The table's length is 32 + 864 × N."
-unfoldable pub lengthOk : ℕ → Bool
-lengthOk n = leb 1 (slotsFor n) && (leb (slotsFor n) (made .slots) && eqb n (recordAt (made .width) (slotsFor n)))
+-- "slots N (1 to 64). The table's length is 32 + 864 × N", and 32 + 1,080 × N with N at most 60
+unfoldable pub lengthOk : Form → ℕ → Bool
+lengthOk f n = leb 1 (slotsFor f n) && (leb (slotsFor f n) (f .slots) && eqb n (recordAt (f .width) (slotsFor f n)))
 
 -- a header with no slot in use
-unfoldable pub initialHeader : Settings → List ℕ → ℕ → Header
-initialHeader s own n =
+unfoldable pub initialHeader : Form → Settings → List ℕ → ℕ → Header
+initialHeader f s own n =
     record {
-      geometry = record { slots = n; size = made .size; first = 32 };
+      geometry = record { slots = n; size = f .size; first = 32 };
       counts = record { used = 0; opened = 0; spare = 0 };
       spare = 0;
       own = own;
       settings = s;
     }
 
-unfoldable pub initialTable : Settings → List ℕ → ℕ → Table
-initialTable s own n = record { header = initialHeader s own n; peers = replicate n noPeer }
+unfoldable pub initialTable : Form → Settings → List ℕ → ℕ → Table
+initialTable f s own n = record { header = initialHeader f s own n; peers = replicate n noPeer }
 
 -- cause 1: "Settings, own address or length wrong at set up"
-unfoldable pub initialOk : Settings → List ℕ → ℕ → Bool
-initialOk s own n = settingsOk made s && (ownOk own && lengthOk n)
+unfoldable pub initialOk : Form → Settings → List ℕ → ℕ → Bool
+initialOk f s own n = settingsOk f s && (ownOk own && lengthOk f n)
 
 -- the buffer that set up leaves: the fresh table, or as it was; its old content is not looked at
-unfoldable pub initial : Settings → List ℕ → List ℕ → List ℕ
-initial s own t = if initialOk s own (length t) then encodeTable (initialTable s own (slotsFor (length t))) else t
+unfoldable pub initial : Form → Settings → List ℕ → List ℕ → List ℕ
+initial f s own t = if initialOk f s own (length t) then encodeTable (initialTable f s own (slotsFor f (length t))) else t

@@ -115,7 +115,7 @@ countsOk T =
     && (eqb (T .header .counts .opened) (countsOf T .opened)
     && eqb (T .header .counts .spare) (countsOf T .spare))
 
--- "The table's length is 32 + 864 × N."
+-- "The table's length is 32 + 864 × N", or 32 + 1,080 × N: by the form that the record size tells, never the other way round
 unfoldable pub sound : List ℕ → Bool
 sound t =
     leb 32 (length t)

@@ -10,7 +10,7 @@ ghost use Rattle.octets.specs.Scan.{allBelow, countBelow, firstBelow, lastBelow
 ghost use Rattle.record.specs.Layout.{encodeHeader};
 ghost use Rattle.soundness.specs.Soundness.{peerOk};
 ghost use Rattle.table.specs.Table.{decodeTable, encodeTable, slots, slot, inUse, isOpen, finds, freeSlot, usedCount, countsOf, slotsOk, alone, addressesOk, countsOk, sound, entry, recounted, key, newKey, standingOf, Changed, Whole, Headed, Reaches, Reached, Sized, Looked, Checks, Enters};
-ghost use Rattle.table.specs.Initial.{slotsFor, lengthOk, initialHeader, initialOk, initial};
+ghost use Rattle.table.specs.Initial.{made, slotsFor, lengthOk, initialHeader, initialOk, initial};
 use octets::Found;
 use record::ADDRESS;
 use record::Counts;
@@ -456,28 +456,28 @@ pub fn recount(t: &mut [u8], k: usize, h: Header, was: Standing)
 
 fn slots_for(n: usize) -> usize
     requires { ⌜ 32 ≤ n ⌝ }
-    ensures { λ r. ⌜ r ≡ slotsFor n ⌝ }
+    ensures { λ r. ⌜ r ≡ slotsFor made n ⌝ }
 {
-    let form = record::narrow();
+    let form = record::wide();
     (n - HEADER) / form.size as usize
 }
 
-// Whether a length is that of 1 to 64 slots.
+// Whether a length is that of 1 to 60 slots.
 fn length_ok(n: usize) -> bool
-    ensures { λ r. ⌜ r ≡ lengthOk n ⌝ }
+    ensures { λ r. ⌜ r ≡ lengthOk made n ⌝ }
 {
     if n < HEADER {
         return false;
     }
-    let form = record::narrow();
+    let form = record::wide();
     let k = slots_for(n);
     (1 <= k) & ((k <= form.slots as usize) & ((n - HEADER) % form.size as usize == 0))
 }
 
 fn initial_ok(s: Settings, own: [u8; 6], n: usize) -> bool
-    ensures { λ r. ⌜ r ≡ initialOk s own n ⌝ }
+    ensures { λ r. ⌜ r ≡ initialOk made s own n ⌝ }
 {
-    let form = record::narrow();
+    let form = record::wide();
     let settings = soundness::settings_ok(form, s);
     let owner = soundness::own_ok(own);
     let length = length_ok(n);
@@ -485,9 +485,9 @@ fn initial_ok(s: Settings, own: [u8; 6], n: usize) -> bool
 }
 
 fn initial_header(s: Settings, own: [u8; 6], n: u16) -> Header
-    ensures { λ r. ⌜ r ≡ initialHeader s own n ⌝ }
+    ensures { λ r. ⌜ r ≡ initialHeader made s own n ⌝ }
 {
-    let form = record::narrow();
+    let form = record::wide();
     Header {
         geometry: Geometry {
             slots: n,
@@ -516,7 +516,7 @@ fn fill(t: &mut [u8], h: Header)
 
 // The initial table goes into a lent buffer, or, false, cause 1 holds and the buffer stays as it was.
 pub fn write_initial(t: &mut [u8], own: [u8; 6], s: Settings) -> bool
-    ensures { λ r. ⌜ (r ≡ initialOk s own (length (now (t .entry)))) × (now (t .exit) ≡ initial s own (now (t .entry))) ⌝ }
+    ensures { λ r. ⌜ (r ≡ initialOk made s own (length (now (t .entry)))) × (now (t .exit) ≡ initial made s own (now (t .entry))) ⌝ }
 {
     let n = t.len();
     if !initial_ok(s, own, n) {

@@ -25,7 +25,7 @@ const OWN: [u8; 6] = [2, 0, 0, 0, 0, 1];
 const PEER: [u8; 6] = [2, 0, 0, 0, 0, 2];
 
 // The octets of a table of one slot.
-const TABLE: usize = 896;
+const TABLE: usize = 1112;
 
 // What the reader hands back of a body: its numbers, where its token or what stands behind a Confirm begins and how long it is, and where scalar
 // or value stands.
@@ -399,20 +399,20 @@ fn run_only(t: &mut [u8]) {
 
 // The stock's length goes by the header's count of groups.
 fn begin(t: &mut [u8], two: bool) -> Answer {
-    let stock = [0u8; 288];
+    let stock = [0u8; 396];
     if two {
         return engine::initiate(t, PEER, 0, &stock);
     }
-    engine::initiate(t, PEER, 0, &stock[..144])
+    engine::initiate(t, PEER, 0, &stock[..198])
 }
 
 fn received(t: &mut [u8], body: &[u8], two: bool) -> Answer {
-    let stock = [0u8; 288];
+    let stock = [0u8; 396];
     let expected = [9u8; 32];
     if two {
         return engine::receive(t, PEER, 0, body, &stock, &expected, 1);
     }
-    engine::receive(t, PEER, 0, body, &stock[..144], &expected, 1)
+    engine::receive(t, PEER, 0, body, &stock[..198], &expected, 1)
 }
 
 fn has_two(t: &[u8]) -> bool {

@@ -1,3 +1,5 @@
--- What the calls of the lists do, and the theorems on the lists.
+-- What holds of any list of calls whose outcomes are known, what the calls of the lists do, and the theorems on the lists.
+pub mod Lists
 pub mod Plays
 pub mod Handshake
+pub mod Fallback

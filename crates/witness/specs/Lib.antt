@@ -1,2 +1,4 @@
--- The lists of calls.
+-- The printers, and the lists of calls.
+pub mod Printers
 pub mod Handshake
+pub mod Fallback

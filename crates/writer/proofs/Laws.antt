@@ -22,7 +22,7 @@ use Rattle.record.specs.declared.Peer.{Peer}
 use Rattle.record.specs.Layout.{decodePeer, recordSize, recordAt, groupsOf, widthIn, decodeHeader, headerOf}
 use Rattle.record.proofs.Windows.{token-law}
 use Rattle.soundness.specs.Soundness.{highSync}
-use Rattle.soundness.proofs.Laws.{header-groups, InUse, peer-in-use, run-states, run-is-committed, run-is-confirmed}
+use Rattle.soundness.proofs.Laws.{header-count, InUse, peer-in-use, run-states, run-is-committed, run-is-confirmed}
 use Rattle.soundness.proofs.Storable.{header-room}
 use Rattle.table.specs.Table.{decodeTable, slot, sound, entry, belongs, Reached, Enters}
 use Rattle.table.specs.declared.Entrance.{Entrance}
@@ -52,8 +52,8 @@ unfolding decodeTable decodeHeader headerOf
 three-groups t = refl
 
 module _ (t : List ℕ) (s : sound t ≡ true) (h : Header) (e : h ≡ decodeTable t .header) where
-  pub few : h .settings .count ≤ 2
-  few = rw e (header-groups _ (sound-header t s) .few)
+  pub few : h .settings .count ≤ 3
+  few = rw e (header-count _ (sound-header t s))
 
   three : length (h .settings .groups) ≡ 3
   three = ap (λ (x : Header). length (x .settings .groups)) e ∙ three-groups t

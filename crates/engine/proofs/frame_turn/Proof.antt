@@ -1,5 +1,5 @@
 use mathlib.Core.Path.{refl}
-use Rattle.engine.proofs.Frames.{takes-unsound, takes-unusable, takes-absent, takes-at}
+use Rattle.engine.proofs.Frames.{takes-if-unsound, takes-if-unusable, takes-found, listing-header}
 use borrow.Author.Needs.{needs}
 use Rattle.engine.proofs.frame_turn.Statement.{statement}
 use Rattle.engine.proofs.frame_turn.Tie as tie
@@ -10,43 +10,41 @@ width-of-requires c κs = search needs
 cast-n : tie.Need-cast-n
 cast-n c = search needs
 
-enum-told : tie.Need-enum-told
-enum-told c = search needs
+is-unsound-requires : tie.Need-is-unsound-requires
+is-unsound-requires c κs = search needs
 
 refuse-frame-requires : tie.Need-refuse-frame-requires
 refuse-frame-requires c κs = search needs
 
-enum-told-2 : tie.Need-enum-told-2
-enum-told-2 c = search needs
+returns : tie.Need-returns
+returns c = takes-if-unsound _ _ _ _ _ _ _ _ (c .before .before .is-unsound .ensures) (c .before .if1 .taken) (c .refuse-frame .ensures)
+
+is-unusable-requires : tie.Need-is-unusable-requires
+is-unusable-requires c κs = search needs
 
 refuse-frame-requires-2 : tie.Need-refuse-frame-requires-2
 refuse-frame-requires-2 c κs = search needs
 
-enum-told-3 : tie.Need-enum-told-3
-enum-told-3 c = search needs
+returns-2 : tie.Need-returns-2
+returns-2 c = takes-if-unusable _ _ _ _ _ _ _ _ (c .before .before .is-unusable .ensures) (c .before .if2 .taken) (c .refuse-frame2 .ensures)
+
+found-in-requires : tie.Need-found-in-requires
+found-in-requires c κs = search needs
 
 admit-frame-requires : tie.Need-admit-frame-requires
 admit-frame-requires c κs =
-    (c .before .before .before .before .before .before .before .pre .absent (c .enum-told3 .given .1), (c .before .before .before .width-of .ensures .0, refl))
-
-enum-known-entry : tie.Need-enum-known-entry
-enum-known-entry c = search needs
-
-admit-frame-requires-2 : tie.Need-admit-frame-requires-2
-admit-frame-requires-2 c κs =
-    (c .before .before .before .before .before .before .before .before .pre .here _ (c .before .entry .given .1), (c .before .before .before .before .width-of .ensures .0, refl))
-
-returns : tie.Need-returns
-returns c = takes-unsound _ _ _ _ _ _ _ (c .before .enum-told .given .1) (c .refuse-frame .ensures)
-
-returns-2 : tie.Need-returns-2
-returns-2 c = takes-unusable _ _ _ _ _ _ _ (c .before .enum-told2 .given .1) (c .refuse-frame2 .ensures)
+    let d = c .before .before in
+    let e = d .before .before in
+    let k = e .before .before .before .before .before .before in (
+      listing-header _ _ _ _ (k .pre) (e .is-unsound .ensures) (d .before .if1 .left) (d .is-unusable .ensures) (c .before .if2 .left),
+      (e .before .before .width-of .ensures .0, refl),
+    )
 
 returns-3 : tie.Need-returns-3
-returns-3 c = takes-absent _ _ _ _ _ _ _ (c .before .enum-told3 .given .1) (c .admit-frame .ensures)
-
-returns-4 : tie.Need-returns-4
-returns-4 c = takes-at _ _ _ _ _ _ _ _ (c .before .before .entry .given .1) (c .admit-frame2 .ensures)
+returns-3 c =
+    let d = c .before .before .before in
+    let e = d .before .before in
+    takes-found _ _ _ _ _ _ _ _ _ _ (e .is-unsound .ensures) (d .before .if1 .left) (d .is-unusable .ensures) (c .before .before .if2 .left) (c .before .found-in .ensures) (c .admit-frame .ensures)
 
 pub frame-turn-spec : {M : Type 1} → statement M
 frame-turn-spec =
@@ -54,15 +52,12 @@ frame-turn-spec =
     (tie.spec
     width-of-requires
     cast-n
-    enum-told
+    is-unsound-requires
     refuse-frame-requires
-    enum-told-2
-    refuse-frame-requires-2
-    enum-told-3
-    admit-frame-requires
-    enum-known-entry
-    admit-frame-requires-2
     returns
+    is-unusable-requires
+    refuse-frame-requires-2
     returns-2
-    returns-3
-    returns-4)
+    found-in-requires
+    admit-frame-requires
+    returns-3)

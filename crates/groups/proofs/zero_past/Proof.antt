@@ -35,7 +35,16 @@ zero-part-requires-3 : tie.Need-zero-part-requires-3
 zero-part-requires-3 c κs = search needs
 
 returns-4 : tie.Need-returns-4
-returns-4 c = past-part _ _ _ _ _ _ (c .before .before .before .if1 .left) refl (c .zero-part3 .ensures)
+returns-4 c = past-part _ _ _ _ _ _ (c .before .before .before .before .if1 .left) (c .before .if4 .taken) (c .zero-part3 .ensures)
+
+add-zero-part-4 : tie.Need-add-zero-part-4
+add-zero-part-4 c = search needs
+
+zero-part-requires-4 : tie.Need-zero-part-requires-4
+zero-part-requires-4 c κs = search needs
+
+returns-5 : tie.Need-returns-5
+returns-5 c = past-part _ _ _ _ _ _ (c .before .before .before .before .if1 .left) refl (c .zero-part4 .ensures)
 
 pub zero-past-spec : {M : Type 1} → statement M
 zero-past-spec =
@@ -51,4 +60,7 @@ zero-past-spec =
     returns-3
     add-zero-part-3
     zero-part-requires-3
-    returns-4)
+    returns-4
+    add-zero-part-4
+    zero-part-requires-4
+    returns-5)

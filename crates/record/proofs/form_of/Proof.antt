@@ -15,9 +15,21 @@ returns : tie.Need-returns
 unfolding formOf
 returns c = c .narrow .ensures ∙ simp (eq-eqb _ _ (c .before .if1 .taken))
 
+cast-if2 : tie.Need-cast-if2
+cast-if2 c = search needs
+
+wide-requires : tie.Need-wide-requires
+wide-requires c κs = search needs
+
 returns-2 : tie.Need-returns-2
 unfolding formOf
-returns-2 c = simp (ne-eqb _ _ (c .if1 .left))
+returns-2 c = c .wide .ensures ∙ simp (ne-eqb _ _ (c .before .before .if1 .left), eq-eqb _ _ (c .before .if2 .taken))
+
+returns-3 : tie.Need-returns-3
+unfolding formOf
+returns-3 c = simp (ne-eqb _ _ (c .before .if1 .left), ne-eqb _ _ (c .if2 .left))
 
 pub form-of-spec : {M : Type 1} → statement M
-form-of-spec = tie.close (tie.spec cast-if1 narrow-requires returns returns-2)
+form-of-spec =
+    tie.close
+    (tie.spec cast-if1 narrow-requires returns cast-if2 wide-requires returns-2 returns-3)

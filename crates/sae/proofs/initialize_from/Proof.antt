@@ -11,7 +11,7 @@ refuse-with-requires : tie.Need-refuse-with-requires
 refuse-with-requires c κs = search needs
 
 returns : tie.Need-returns
-returns c = from-reserved _ _ _ _ (c .before .before .reserved-zero .ensures) _ (c .before .if1 .taken) (c .refuse-with .ensures)
+returns c = from-reserved _ _ _ _ _ (c .before .before .reserved-zero .ensures) _ (c .before .if1 .taken) (c .refuse-with .ensures)
 
 settings-of-requires : tie.Need-settings-of-requires
 settings-of-requires c κs = search needs
@@ -23,7 +23,7 @@ same-length : tie.Need-same-length
 same-length c = search needs
 
 returns-2 : tie.Need-returns-2
-returns-2 c = from-settings _ _ _ _ (c .before .before .before .before .before .before .reserved-zero .ensures) (c .before .before .before .before .settings-of .result) _ _ (c .before .before .before .before .before .if1 .left) (c .before .before .before .before .settings-of .ensures) (c .before .before .initialize .ensures)
+returns-2 c = from-settings _ _ _ _ _ (c .before .before .before .before .before .before .reserved-zero .ensures) (c .before .before .before .before .settings-of .result) _ _ (c .before .before .before .before .before .if1 .left) (c .before .before .before .before .settings-of .ensures) (c .before .before .initialize .ensures)
 
 pub initialize-from-spec : {M : Type 1} → statement M
 initialize-from-spec = tie.close (tie.spec reserved-zero-requires refuse-with-requires returns settings-of-requires initialize-requires same-length returns-2)

@@ -16,15 +16,9 @@ slice-aggregate-zero-part-2 c = search needs
 zero-part-requires-2 : tie.Need-zero-part-requires-2
 zero-part-requires-2 c κs = search needs
 
-slice-aggregate-zero-part-3 : tie.Need-slice-aggregate-zero-part-3
-slice-aggregate-zero-part-3 c = search needs
-
-zero-part-requires-3 : tie.Need-zero-part-requires-3
-zero-part-requires-3 c κs = search needs
-
 returns : tie.Need-returns
 unfolding reservedZero
-returns c = cc (c .before .before .before .before .zero-part .ensures, c .before .before .zero-part2 .ensures, c .zero-part3 .ensures)
+returns c = cc (c .before .before .zero-part .ensures, c .zero-part2 .ensures)
 
 pub reserved-zero-spec : {M : Type 1} → statement M
 reserved-zero-spec =
@@ -34,6 +28,4 @@ reserved-zero-spec =
     zero-part-requires
     slice-aggregate-zero-part-2
     zero-part-requires-2
-    slice-aggregate-zero-part-3
-    zero-part-requires-3
     returns)

@@ -28,8 +28,17 @@ slice-aggregate-get16-3 c = search needs
 get16-requires-3 : tie.Need-get16-requires-3
 get16-requires-3 c κs = search needs
 
+slice-aggregate-get16-4 : tie.Need-slice-aggregate-get16-4
+slice-aggregate-get16-4 c = search needs
+
+get16-requires-4 : tie.Need-get16-requires-4
+get16-requires-4 c κs = search needs
+
 returns : tie.Need-returns
-returns c = settings-are _ _ _ _ _ (c .before .before .before .before .before .before .get8 .ensures) (c .before .before .before .before .get16 .ensures) (c .before .before .get162 .ensures) (c .get163 .ensures)
+returns c =
+    let d = c .before .before in
+    let e = d .before .before in
+    settings-are _ _ _ _ _ _ (e .before .before .before .before .get8 .ensures) (e .before .before .get16 .ensures) (e .get162 .ensures) (d .get163 .ensures) (c .get164 .ensures)
 
 pub settings-of-spec : {M : Type 1} → statement M
 settings-of-spec =
@@ -43,4 +52,6 @@ settings-of-spec =
     get16-requires-2
     slice-aggregate-get16-3
     get16-requires-3
+    slice-aggregate-get16-4
+    get16-requires-4
     returns)

@@ -5,23 +5,8 @@ use borrow.Author.Needs.{needs}
 use Rattle.soundness.proofs.confirmed_ok.Statement.{statement}
 use Rattle.soundness.proofs.confirmed_ok.Tie as tie
 
-get8-requires : tie.Need-get8-requires
-get8-requires c κs = search needs
-
-get8-requires-2 : tie.Need-get8-requires-2
-get8-requires-2 c κs = search needs
-
 get16-requires : tie.Need-get16-requires
 get16-requires c κs = search needs
-
-get16-requires-2 : tie.Need-get16-requires-2
-get16-requires-2 c κs = search needs
-
-is-listed-requires : tie.Need-is-listed-requires
-is-listed-requires c κs = search needs
-
-token-ok-requires : tie.Need-token-ok-requires
-token-ok-requires c κs = search needs
 
 commit-length-requires : tie.Need-commit-length-requires
 commit-length-requires c κs = search needs
@@ -34,6 +19,21 @@ zero-past-requires c κs = search needs
 
 zero-past-requires-2 : tie.Need-zero-past-requires-2
 zero-past-requires-2 c κs = search needs
+
+token-ok-requires : tie.Need-token-ok-requires
+token-ok-requires c κs = search needs
+
+is-listed-requires : tie.Need-is-listed-requires
+is-listed-requires c κs = search needs
+
+get8-requires : tie.Need-get8-requires
+get8-requires c κs = search needs
+
+get8-requires-2 : tie.Need-get8-requires-2
+get8-requires-2 c κs = search needs
+
+get16-requires-2 : tie.Need-get16-requires-2
+get16-requires-2 c κs = search needs
 
 cast-result : tie.Need-cast-result
 cast-result c = search needs
@@ -49,16 +49,16 @@ pub confirmed-ok-spec : {M : Type 1} → statement M
 confirmed-ok-spec =
     tie.close
     (tie.spec
-    get8-requires
-    get8-requires-2
     get16-requires
-    get16-requires-2
-    is-listed-requires
-    token-ok-requires
     commit-length-requires
     run-peer-at-requires
     zero-past-requires
     zero-past-requires-2
+    token-ok-requires
+    is-listed-requires
+    get8-requires
+    get8-requires-2
+    get16-requires-2
     cast-result
     add-result
     returns)

@@ -1,4 +1,5 @@
-use Rattle.soundness.proofs.Tests.{groups-more, groups-is-one, groups-is-two, groups-else}
+use mathlib.Core.Path.{refl}
+use Rattle.soundness.proofs.Tests.{groups-more, groups-is-one, groups-is-two, groups-is-three, groups-else}
 use borrow.Author.Needs.{needs}
 use Rattle.soundness.proofs.groups_ok.Statement.{statement}
 use Rattle.soundness.proofs.groups_ok.Tie as tie
@@ -15,20 +16,37 @@ array-read-b c = search needs
 array-read-c : tie.Need-array-read-c
 array-read-c c = search needs
 
-is-known-requires : tie.Need-is-known-requires
-is-known-requires c κs = search needs
+is-listable-requires : tie.Need-is-listable-requires
+is-listable-requires c κs = search needs
 
 returns-2 : tie.Need-returns-2
-returns-2 c = groups-is-one _ (c .before .before .before .args .n) (c .before .before .before .args .t3) (search needs) (c .before .before .if1 .left) _ (c .if2 .taken) (c .before .is-known .ensures)
+returns-2 c = let s = c .before .before .before .before in groups-is-one _ (s .args .n) (s .args .t3) (search needs) (c .before .before .if1 .left) _ refl _ (c .before .is-listable .ensures) (c .if2 .taken)
 
-is-known-requires-2 : tie.Need-is-known-requires-2
-is-known-requires-2 c κs = search needs
+is-listable-requires-2 : tie.Need-is-listable-requires-2
+is-listable-requires-2 c κs = search needs
 
 returns-3 : tie.Need-returns-3
-returns-3 c = groups-is-two _ (c .before .before .before .before .before .args .n) (c .before .before .before .before .before .args .t3) (search needs) (c .before .before .before .before .if1 .left) _ _ (c .before .if3 .taken) (c .before .before .before .is-known .ensures) (c .is-known2 .ensures)
+returns-3 c =
+    let d = c .before .before in
+    let s = d .before .before .before .before in
+    groups-is-two _ (s .args .n) (s .args .t3) (search needs) (d .before .before .if1 .left) _ refl _ (d .before .is-listable .ensures) _ (c .before .is-listable2 .ensures) (c .if3 .taken)
+
+is-listable-requires-3 : tie.Need-is-listable-requires-3
+is-listable-requires-3 c κs = search needs
 
 returns-4 : tie.Need-returns-4
-returns-4 c = groups-else _ _ (c .before .before .before .before .args .t3) (c .before .before .before .before .pre) (c .before .if2 .left) (c .if3 .left)
+returns-4 c =
+    let e = c .before .before in
+    let d = e .before .before in
+    let s = d .before .before .before .before in
+    groups-is-three _ (s .args .n) (s .args .t3) (search needs) (d .before .before .if1 .left) _ refl _ (d .before .is-listable .ensures) _ (e .before .is-listable2 .ensures) _ (c .before .if4 .taken) (c .is-listable3 .ensures)
+
+returns-5 : tie.Need-returns-5
+returns-5 c =
+    let e = c .before in
+    let d = e .before .before in
+    let s = d .before .before .before .before in
+    groups-else _ _ (s .args .t3) (s .pre) (d .if2 .left) (e .if3 .left) (c .if4 .left)
 
 pub groups-ok-spec : {M : Type 1} → statement M
 groups-ok-spec =
@@ -38,8 +56,10 @@ groups-ok-spec =
     array-read-a
     array-read-b
     array-read-c
-    is-known-requires
+    is-listable-requires
     returns-2
-    is-known-requires-2
+    is-listable-requires-2
     returns-3
-    returns-4)
+    is-listable-requires-3
+    returns-4
+    returns-5)

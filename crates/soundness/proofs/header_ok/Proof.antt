@@ -17,7 +17,7 @@ own-ok-requires : tie.Need-own-ok-requires
 own-ok-requires c κs = search needs
 
 settings-ok-requires : tie.Need-settings-ok-requires
-settings-ok-requires c κs = subst (λ (f : Form). f .groups ≤ 2) (sym (c .before .before .form-of .ensures)) (form-groups _)
+settings-ok-requires c κs = subst (λ (f : Form). f .groups ≤ 3) (sym (c .before .before .form-of .ensures)) (form-groups _)
 
 returns : tie.Need-returns
 unfolding headerOk

@@ -9,27 +9,6 @@ link-at-requires c κs = search needs
 record-size-requires : tie.Need-record-size-requires
 record-size-requires c κs = search needs
 
-get8-requires : tie.Need-get8-requires
-get8-requires c κs = search needs
-
-take6-requires : tie.Need-take6-requires
-take6-requires c κs = search needs
-
-add-get8 : tie.Need-add-get8
-add-get8 c = search needs
-
-get8-requires-2 : tie.Need-get8-requires-2
-get8-requires-2 c κs = search needs
-
-add-get8-2 : tie.Need-add-get8-2
-add-get8-2 c = search needs
-
-get8-requires-3 : tie.Need-get8-requires-3
-get8-requires-3 c κs = search needs
-
-is-usable-requires : tie.Need-is-usable-requires
-is-usable-requires c κs = search needs
-
 sub-run-ok : tie.Need-sub-run-ok
 sub-run-ok c = search needs
 
@@ -54,8 +33,34 @@ part-link-ok-end c = search needs
 link-ok-requires : tie.Need-link-ok-requires
 link-ok-requires c κs = search needs
 
+get8-requires : tie.Need-get8-requires
+get8-requires c κs = search needs
+
+take6-requires : tie.Need-take6-requires
+take6-requires c κs = search needs
+
+add-get8 : tie.Need-add-get8
+add-get8 c = search needs
+
+get8-requires-2 : tie.Need-get8-requires-2
+get8-requires-2 c κs = search needs
+
+add-get8-2 : tie.Need-add-get8-2
+add-get8-2 c = search needs
+
+get8-requires-3 : tie.Need-get8-requires-3
+get8-requires-3 c κs = search needs
+
+is-usable-requires : tie.Need-is-usable-requires
+is-usable-requires c κs = search needs
+
 returns : tie.Need-returns
-returns c = in-use-law _ _ _ _ _ _ _ _ _ _ _ _ _ _ (c .before .before .before .before .before .before .before .before .before .before .before .before .before .pre .0) (c .before .before .before .before .before .before .before .before .before .before .link-at .ensures) (c .before .before .before .before .before .before .before .before .before .record-size .ensures) (c .before .before .before .before .before .before .before .before .get8 .ensures) (c .before .before .before .before .before .before .before .take6 .ensures) (c .before .before .before .before .before .before .get82 .ensures) (c .before .before .before .before .before .get83 .ensures) (c .before .before .before .before .is-usable .ensures) (c .before .before .run-ok .ensures) (c .link-ok .ensures)
+returns c =
+    let d = c .before .before .before .before in
+    let e = d .before .before .before in
+    let b = e .before .before in
+    in-use-law _ _ _ _ _ _ _ _ _ _ _ _ _ _ (b .before .before .before .before .pre .0) (b .before .link-at .ensures) (b .record-size .ensures) (d .get8 .ensures)
+    (c .before .before .before .take6 .ensures) (c .before .before .get82 .ensures) (c .before .get83 .ensures) (c .is-usable .ensures) (e .run-ok .ensures) (d .before .link-ok .ensures)
 
 pub in-use-ok-spec : {M : Type 1} → statement M
 in-use-ok-spec =
@@ -63,13 +68,6 @@ in-use-ok-spec =
     (tie.spec
     link-at-requires
     record-size-requires
-    get8-requires
-    take6-requires
-    add-get8
-    get8-requires-2
-    add-get8-2
-    get8-requires-3
-    is-usable-requires
     sub-run-ok
     part-run-ok-start
     part-run-ok-end
@@ -78,4 +76,11 @@ in-use-ok-spec =
     part-link-ok-start
     part-link-ok-end
     link-ok-requires
+    get8-requires
+    take6-requires
+    add-get8
+    get8-requires-2
+    add-get8-2
+    get8-requires-3
+    is-usable-requires
     returns)

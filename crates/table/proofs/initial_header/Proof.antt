@@ -3,14 +3,14 @@ use borrow.Author.Needs.{needs}
 use Rattle.table.proofs.initial_header.Statement.{statement}
 use Rattle.table.proofs.initial_header.Tie as tie
 
-narrow-requires : tie.Need-narrow-requires
-narrow-requires c κs = search needs
+wide-requires : tie.Need-wide-requires
+wide-requires c κs = search needs
 
 cast-t5 : tie.Need-cast-t5
 cast-t5 c = search needs
 
 returns : tie.Need-returns
-returns c = made-header _ _ _ _ (c .narrow .ensures)
+returns c = made-header _ _ _ _ (c .wide .ensures)
 
 pub initial-header-spec : {M : Type 1} → statement M
-initial-header-spec = tie.close (tie.spec narrow-requires cast-t5 returns)
+initial-header-spec = tie.close (tie.spec wide-requires cast-t5 returns)

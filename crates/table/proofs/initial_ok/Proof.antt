@@ -6,11 +6,11 @@ use borrow.Author.Needs.{needs}
 use Rattle.table.proofs.initial_ok.Statement.{statement}
 use Rattle.table.proofs.initial_ok.Tie as tie
 
-narrow-requires : tie.Need-narrow-requires
-narrow-requires c κs = search needs
+wide-requires : tie.Need-wide-requires
+wide-requires c κs = search needs
 
 settings-ok-requires : tie.Need-settings-ok-requires
-settings-ok-requires c κs = omega (arith, ap (λ (f : Form). f .groups) (c .narrow .ensures))
+settings-ok-requires c κs = omega (arith, ap (λ (f : Form). f .groups) (c .wide .ensures))
 
 own-ok-requires : tie.Need-own-ok-requires
 own-ok-requires c κs = search needs
@@ -25,4 +25,4 @@ returns c = cc
 pub initial-ok-spec : {M : Type 1} → statement M
 initial-ok-spec =
     tie.close
-    (tie.spec narrow-requires settings-ok-requires own-ok-requires length-ok-requires returns)
+    (tie.spec wide-requires settings-ok-requires own-ok-requires length-ok-requires returns)

@@ -4,8 +4,8 @@ use borrow.Author.Needs.{needs}
 use Rattle.table.proofs.slots_for.Statement.{statement}
 use Rattle.table.proofs.slots_for.Tie as tie
 
-narrow-requires : tie.Need-narrow-requires
-narrow-requires c κs = search needs
+wide-requires : tie.Need-wide-requires
+wide-requires c κs = search needs
 
 sub-result : tie.Need-sub-result
 sub-result c = search needs
@@ -14,10 +14,10 @@ cast-result : tie.Need-cast-result
 cast-result c = search needs
 
 div-result : tie.Need-div-result
-div-result c = omega (arith, made-size (c .before .narrow .ensures))
+div-result c = omega (arith, made-size (c .before .wide .ensures))
 
 returns : tie.Need-returns
-returns c = slots-by _ _ (c .before .narrow .ensures)
+returns c = slots-by _ _ (c .before .wide .ensures)
 
 pub slots-for-spec : {M : Type 1} → statement M
-slots-for-spec = tie.close (tie.spec narrow-requires sub-result cast-result div-result returns)
+slots-for-spec = tie.close (tie.spec wide-requires sub-result cast-result div-result returns)
