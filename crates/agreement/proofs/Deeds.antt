@@ -177,7 +177,7 @@ module _ (t : List ℕ) where
   pub deed : {c : Call} (b : List ℕ) (s : Story) → Ends t c → Shows (limitIn t) (look (decodeTable t) b) s → (e : Act) × DeedOf c b e
   deed {c} b s (idles d e) S =
       (idle, deed-at refl refl refl (ap (λ (x : List ℕ). look (decodeTable x) b) e) (apart-deed (groupsIn t) c (done t c) _ _ b _ (λ k a. clash k d)))
-  deed b s (sets-up d f y n) S = (endBoth, ended-deed _ _ _ _ _ b _ _ (n b) f)
+  deed b s (sets-up d f y n i) S = (endBoth, ended-deed _ _ _ _ _ b _ _ (n b) f)
   deed b s (frees {a} d M) S = go (sameAddress a b) refl
     where
       go : (x : Bool) → sameAddress a b ≡ x → (e : Act) × DeedOf (kill a) b e

@@ -7,13 +7,13 @@ use native.Mathlib.Omega.{arith}
 use Rattle.protocol.specs.Model.{Commit, Side, A, B, other, state, unlinked, finished}
 use Rattle.protocol.specs.Model as model
 use Rattle.protocol.specs.Repeats.{latest}
-use Rattle.protocol.proofs.Repeats.{limited-within}
+use Rattle.protocol.proofs.Repeats.{each-by, limited-within}
 use Rattle.protocol.proofs.Formed.{formed-before}
 use Rattle.protocol.proofs.Agree.{agreement}
 use Rattle.octets.specs.Scan.{bit}
 use Rattle.record.specs.declared.Link.{Link}
 use Rattle.record.specs.declared.Peer.{Peer}
-use Rattle.record.specs.Layout.{noLink, factoryLimit}
+use Rattle.record.specs.Layout.{noLink}
 use Rattle.table.specs.Table.{decodeTable, look}
 use Rattle.rules.specs.Book.{_isnt_}
 use Rattle.call_laws.proofs.Good as good
@@ -23,8 +23,8 @@ use Rattle.agreement.specs.Story as story
 use Rattle.agreement.specs.Statement.{run, Premises, Says, no-link, a-link, Formed, Demand3}
 use Rattle.agreement.specs.Needed.{Needed, Stronger}
 use Rattle.agreement.proofs.Engine.{Lawful}
-use Rattle.agreement.proofs.Shows.{shows-counts}
-use Rattle.agreement.proofs.History.{shown, limits}
+use Rattle.agreement.proofs.Shows.{shows-limit, shows-counts}
+use Rattle.agreement.proofs.History.{shown, limits, set-limits}
 use Rattle.agreement.proofs.Acts.{view, viewLink}
 use Rattle.agreement.proofs.Valid.{ownOf, peerOf, pair-is, other-other, hist, states, rightful, valid, formed-in}
 
@@ -94,8 +94,10 @@ demand3 own h H = record {
   agree = λ P. demand3-needed own h H .agree (premises-needed own h P);
   formed = λ P. demand3-needed own h H .formed (premises-needed own h P .rightful);
   repeats = λ X a. shown lawful H X a .repeats;
+  lasts = λ X a q. shows-limit _ _ (storyOf h X a) (shown lawful H X a) q;
   limits = limits lawful H;
-  six = λ X a. limited-within factoryLimit _ (limits lawful H X a) (shown lawful H X a .repeats);
+  eleven = λ X a. limited-within 10 _ (each-by (λ r b. b .1) (limits lawful H X a)) (shown lawful H X a .repeats);
+  set = λ X n S a. limited-within n _ (each-by (λ r b. omega (arith, b)) (set-limits lawful n X H S a)) (shown lawful H X a .repeats);
 }
 
 -- and Sync counts every repeat, with no exception: of a run in being, those since it began or, once its pair stands, since then

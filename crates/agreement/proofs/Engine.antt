@@ -25,12 +25,13 @@ use Rattle.record.specs.declared.Peer.{Peer}
 use Rattle.record.specs.declared.Counts.{Counts}
 use Rattle.record.specs.declared.Form.{Form}
 use Rattle.record.specs.declared.Header.{Header}
+use Rattle.record.specs.declared.Settings.{Settings}
 use Rattle.record.specs.Layout.{formOf, widthIn, groupsOf, limitOf, counted, noPeer, decodeHeader, headerOf}
 use Rattle.record.specs.SettingsOctets.{settingsOf, reservedZero}
 use Rattle.record.proofs.Laws.{Served, form-width}
 use Rattle.soundness.proofs.Laws.{header-groups, header-width, header-count}
 use Rattle.table.specs.Table.{Table, decodeTable, encodeTable, recounted, slot, finds, look, lookBy, sound, entry}
-use Rattle.table.specs.Initial.{initialOk, slotsFor, initialTable, initial}
+use Rattle.table.specs.Initial.{initialOk, slotsFor, initialHeader, initialTable, initial}
 use Rattle.table.specs.declared.Entry.{Entry}
 use Rattle.table.specs.declared.Entry.the-variants as entry-is
 use Rattle.table.proofs.Laws.{entry-at, entry-absent, sound-header}
@@ -238,9 +239,10 @@ pub record Made (t u : List ℕ) (a : List ℕ) (o : Step) (r : Answer) : Type 0
 pub data Ends (t : List ℕ) : Call → Type 0 where
   -- a refusal, nothing due, or the writer's
   idles : {c : Call} → done t c ≡ false → tableAfter t c ≡ t → Ends t c
-  -- a set up: no address has a record
+  -- a set up: no address has a record, and the Sync limit is what the settings say
   sets-up : {size : ℕ} {buffer own settings : List ℕ} → done t (initialize size buffer own settings) ≡ true → left t (initialize size buffer own settings) .answer .frames ≡ frames.None
       → Bytes (tableAfter t (initialize size buffer own settings)) → ((a : List ℕ) → look (decodeTable (tableAfter t (initialize size buffer own settings))) a ≡ noPeer)
+      → limitIn (tableAfter t (initialize size buffer own settings)) ≡ limitOf (settingsOf settings .limit)
       → Ends t (initialize size buffer own settings)
   frees : {a : List ℕ} → done t (kill a) ≡ true → Made t (tableAfter t (kill a)) a killStep (left t (kill a) .answer) → Ends t (kill a)
   steps : {c : Call} (a : List ℕ) (o : Step) → Told a c → done t c ≡ true → Made t (tableAfter t c) a o (left t c .answer)
@@ -351,12 +353,16 @@ settings-fit s own hs ho = record {
     group1 = two-below s 4 (hs .bytes) (omega (arith, hs .many));
     group2 = two-below s 6 (hs .bytes) (omega (arith, hs .many));
     threshold = two-below s 8 (hs .bytes) (omega (arith, hs .many));
-    period = lit< tt;
-    limit = lit< tt;
+    period = two-below s 10 (hs .bytes) (omega (arith, hs .many));
+    limit = one-below s 12 (hs .bytes) (omega (arith, hs .many));
   };
   six = ho .many;
   bytes = ho .bytes;
 }
+
+initial-limit : (f : Form) (s : Settings) (own : List ℕ) (n : ℕ) → limitOf (initialTable f s own n .header .settings .limit) ≡ limitOf (s .limit)
+unfolding initialTable initialHeader
+initial-limit f s own n = refl
 
 -- the writer's call
 write-ends : (t : List ℕ) (w : Writing) → Ends t (write w)
@@ -387,6 +393,8 @@ module _ (L : Lawful) (t : List ℕ) (b : Bytes t) where
           (rw (z, e, quiet-done own) (subst Bytes (sym (made e)) (bytes-initial form (served e) (settingsOf settings) own buffer fit bb)))
           (λ a. rw (z, e, quiet-done own) (fresh-look _ a (λ k. ap (λ (u : List ℕ). slot (decodeTable u) k) (made e)
           ∙ ap (λ (T : Table). slot T k) (initial-decoded form (served e) (settingsOf settings) own buffer fit e) ∙ initial-slot form (settingsOf settings) own (slotsFor form (length buffer)) k)))
+          (rw (z, e, quiet-done own) (ap (λ (u : List ℕ). limitIn u) (made e) ∙ ap (λ (T : Table). limitOf (T .header .settings .limit)) (initial-decoded form (served e) (settingsOf settings) own buffer fit e)
+          ∙ initial-limit form (settingsOf settings) own (slotsFor form (length buffer))))
       go true false z e = idles {c = initialize size buffer own settings} (rw (z, e) (refused-done why.Settings)) (rw (z, e, refused-done why.Settings))
       go false x z e = idles {c = initialize size buffer own settings} (rw z (refused-done why.Settings)) (rw (z, refused-done why.Settings))
 

@@ -2,28 +2,29 @@
 -- asked.
 use mathlib.Core.Path.{_≡_, refl, sym, ap, _∙_, subst}
 use mathlib.Core.Bool.{Bool, true, false, not, _&&_, _||_}
-use mathlib.Core.List.{List, []}
+use mathlib.Core.List.{List, [], _∷_}
 use native.Mathlib.Nat.{zero-div}
-use Prim.Native.Nat.{ℕ}
+use Prim.Native.Nat.{ℕ, _≤_}
 use lib.Dec.{eqb, lit<}
 use borrow.Author.Tests.{eqb-true}
 use Rattle.protocol.specs.Model.{Side, A, B}
-use Rattle.protocol.specs.Repeats.{none, run, Limited}
+use Rattle.protocol.specs.Repeats.{begun, none, run, Limited}
 use Rattle.protocol.proofs.Repeats.{more-limited}
 use Rattle.octets.specs.Scan.{if_then_else_, firstBelow}
 use Rattle.octets.specs.Octets.{Bytes, num, sameAddress}
 use Rattle.octets.proofs.Scan.{clash}
 use Rattle.record.specs.declared.Peer.{Peer}
-use Rattle.record.specs.Layout.{recordSize, noPeer, factoryLimit}
-use Rattle.table.specs.Table.{Table, widthOf, decodeTable, peersOf, slot, slots, inUse, belongs, finds, look, lookBy}
+use Rattle.record.specs.Layout.{recordSize, noPeer, limitOf}
+use Rattle.record.specs.SettingsOctets.{settingsOf}
+use Rattle.table.specs.Table.{Table, widthOf, decodeTable, peersOf, slot, slots, inUse, belongs, finds, look, lookBy, sound}
 use Rattle.rules.specs.Book.{Step}
 use Rattle.answers.specs.declared.Answer.{Answer}
 use Rattle.answers.specs.Answers.{said}
 use Rattle.calls.specs.Calls.{killStep}
-use Rattle.call_laws.proofs.Good.{factory-limit}
-use Rattle.agreement.specs.Calls.{Call, kill, Entry, AllHanded, none, more, left, done, isInitialize, tableAfter, mine, tableOf}
+use Rattle.call_laws.proofs.Good.{limit-of}
+use Rattle.agreement.specs.Calls.{Call, initialize, kill, Entry, AllHanded, none, more, Comes, last, sooner, left, done, isInitialize, tableAfter, mine, tableOf}
 use Rattle.agreement.specs.Story.{Story, nothingYet, isStart, sends, usesAfresh, formsPair, told, answered, clears, cleared, isAbout, toldBy, storyAfter, storyOf, groupsIn, limitIn}
-use Rattle.agreement.specs.Statement.{no-link}
+use Rattle.agreement.specs.Statement.{no-link, SetTo}
 use Rattle.agreement.proofs.Rules.{either}
 use Rattle.agreement.proofs.Shows.{Shows, no-run, shows-state, shows-whole, shows-kept, shows-cleared}
 use Rattle.agreement.proofs.Engine.{Lawful, Told, a-start, a-frame, a-clock, Ends, idles, sets-up, frees, steps, call-ends, fresh-look}
@@ -89,14 +90,14 @@ shows-at {n} {m} {p} {q} {r} {s} i e f h = subst (λ (k : ℕ). Shows k q s) (sy
 module _ (t : List ℕ) where
   bytes-after : {c : Call} → Bytes t → Ends t c → Bytes (tableAfter t c)
   bytes-after b (idles d e) = subst Bytes (sym e) b
-  bytes-after b (sets-up d f y n) = y
+  bytes-after b (sets-up d f y n i) = y
   bytes-after b (frees d M) = M .bytes
   bytes-after b (steps a o k d M D) = M .bytes
 
   shows-after : {c : Call} (b : List ℕ) (s : Story) → Ends t c → Shows (limitIn t) (look (decodeTable t) b) s
       → Shows (limitIn (tableAfter t c)) (look (decodeTable (tableAfter t c)) b) (storyAfter t c b s)
   shows-after {c} b s (idles d e) h = shows-at (ap (λ (u : List ℕ). limitIn u) e) (ap (λ (u : List ℕ). look (decodeTable u) b) e) (idle-apart t c b s d) h
-  shows-after b s (sets-up d f y n) h = shows-at refl (n b) (story-about t _ b s d) (shows-cleared _ s (h .repeats))
+  shows-after b s (sets-up d f y n i) h = shows-at refl (n b) (story-about t _ b s d) (shows-cleared _ s (h .repeats))
   shows-after b s (frees {a} d M) h = go (sameAddress a b) refl
     where
       go : (x : Bool) → sameAddress a b ≡ x → Shows (limitIn (tableAfter t (kill a))) (look (decodeTable (tableAfter t (kill a))) b) (storyAfter t (kill a) b s)
@@ -115,27 +116,35 @@ module _ (t : List ℕ) where
       go false e = shows-at (M .limit) (M .elsewhere b e) (story-apart t c b s (step-about t a b o k d (M .answer) ∙ e)) h
 
 -- a run that begins has the limit of the call's table, and every other keeps its own
-answered-limited : (n : ℕ) (gs : List ℕ) (limit : ℕ) (c : Call) (r : Answer) (s : Story) → limit ≡ n → Limited n (s .runs)
-    → Limited n (answered gs limit c r s .runs)
-unfolding told
-answered-limited n gs limit c r s e h =
-    either (Limited n) (isStart c || (formsPair c r && not (s .running))) (λ b. run e h)
-    (λ b. either (Limited n) (s .running && (sends (r .frames) && (not (usesAfresh r) && not (formsPair c r)))) (λ m. more-limited n (s .stands) (s .runs) h) (λ m. h))
+module _ (P : ℕ → Type 0) where
+  answered-limited : (gs : List ℕ) (limit : ℕ) (c : Call) (r : Answer) (s : Story) → P limit → Limited P (s .runs) → Limited P (answered gs limit c r s .runs)
+  unfolding told
+  answered-limited gs limit c r s e h =
+      either (Limited P) (isStart c || (formsPair c r && not (s .running))) (λ b. run {r = begun limit} e h)
+      (λ b. either (Limited P) (s .running && (sends (r .frames) && (not (usesAfresh r) && not (formsPair c r)))) (λ m. more-limited P (s .stands) (s .runs) h) (λ m. h))
 
-story-limited : (n : ℕ) (t : List ℕ) (c : Call) (b : List ℕ) (s : Story) → (clears c ≡ false → limitIn t ≡ n) → Limited n (s .runs)
-    → Limited n (storyAfter t c b s .runs)
-unfolding storyAfter cleared
-story-limited n t c b s e h =
-    either (λ (x : Story). Limited n (x .runs)) (isAbout t c b)
-    (λ i. either (λ (x : Story). Limited n (x .runs)) (clears c) (λ q. h) (λ q. answered-limited n (groupsIn t) (limitIn t) c (left t c .answer) s (e q) h))
-    (λ i. h)
+  story-limited : (t : List ℕ) (c : Call) (b : List ℕ) (s : Story) → (clears c ≡ false → P (limitIn t)) → Limited P (s .runs) → Limited P (storyAfter t c b s .runs)
+  unfolding storyAfter cleared
+  story-limited t c b s e h =
+      either (λ (x : Story). Limited P (x .runs)) (isAbout t c b)
+      (λ i. either (λ (x : Story). Limited P (x .runs)) (clears c) (λ q. h) (λ q. answered-limited (groupsIn t) (limitIn t) c (left t c .answer) s (e q) h))
+      (λ i. h)
 
--- a step is made in a sound table alone, whose limit is the factory's
-limits-after : (t : List ℕ) {c : Call} (b : List ℕ) (s : Story) → Ends t c → Limited factoryLimit (s .runs) → Limited factoryLimit (storyAfter t c b s .runs)
-limits-after t {c} b s (idles d e) h = rw (idle-apart t c b s d) h
-limits-after t b s (sets-up d f y n) h = story-limited factoryLimit t _ b s (λ q. absurd (clash refl q)) h
-limits-after t b s (frees d M) h = story-limited factoryLimit t _ b s (λ q. factory-limit t (M .was)) h
-limits-after t b s (steps a o k d M D) h = story-limited factoryLimit t _ b s (λ q. factory-limit t (M .was)) h
+  -- a step is made in a sound table alone
+  limits-after : (t : List ℕ) {c : Call} (b : List ℕ) (s : Story) → (sound t ≡ true → P (limitIn t)) → Ends t c → Limited P (s .runs) → Limited P (storyAfter t c b s .runs)
+  limits-after t {c} b s p (idles d e) h = rw (idle-apart t c b s d) h
+  limits-after t b s p (sets-up d f y n i) h = story-limited t _ b s (λ q. absurd (clash refl q)) h
+  limits-after t b s p (frees d M) h = story-limited t _ b s (λ q. p (M .was)) h
+  limits-after t b s p (steps a o k d M D) h = story-limited t _ b s (λ q. p (M .was)) h
+
+-- what a set up's Sync limit stands for, the table has from then on
+limit-after : (n : ℕ) (t : List ℕ) {c : Call} → (sound t ≡ true → limitIn t ≡ n)
+    → ((size : ℕ) (buffer own settings : List ℕ) → done t c ≡ true → c ≡ initialize size buffer own settings → limitOf (settingsOf settings .limit) ≡ n)
+    → Ends t c → sound (tableAfter t c) ≡ true → limitIn (tableAfter t c) ≡ n
+limit-after n t p z (idles d e) s = ap (λ (u : List ℕ). limitIn u) e ∙ p (subst (λ (u : List ℕ). sound u ≡ true) e s)
+limit-after n t p z (sets-up {size} {buffer} {own} {settings} d f y m i) s = i ∙ z size buffer own settings d refl
+limit-after n t p z (frees d M) s = M .limit ∙ p (M .was)
+limit-after n t p z (steps a o k d M D) s = M .limit ∙ p (M .was)
 
 -- ---- every list of calls
 
@@ -168,6 +177,13 @@ shown-by a A B t u p q = p
 shown-by a B A t u p q = p
 shown-by a B B t u p q = q
 
+no-table : sound [] ≡ false
+unfolding sound
+no-table = refl
+
+set-before : {n : ℕ} {X : Side} {c : Entry} {h : List Entry} → SetTo n X (c ∷ h) → SetTo n X h
+set-before S e before size buffer address settings k = S e before size buffer address settings (sooner k)
+
 module _ (L : Lawful) where
   pub bytes-of : {h : List Entry} → AllHanded h → (X : Side) → Bytes (tableOf h X)
   unfolding tableOf
@@ -182,10 +198,29 @@ module _ (L : Lawful) where
       shown-by a (e .side) X (tableOf h X) _ (shown H X a)
       (shows-after (tableOf h X) a (storyOf h X a) (call-ends L (tableOf h X) (bytes-of H X) (k .call)) (shown H X a))
 
-  -- every run's limit is the factory's
-  pub limits : {h : List Entry} → AllHanded h → (X : Side) (a : List ℕ) → Limited factoryLimit (storyOf h X a .runs)
+  -- every run's limit is in its range
+  pub limits : {h : List Entry} → AllHanded h → (X : Side) (a : List ℕ) → Limited (λ n. (1 ≤ n) × (n ≤ 10)) (storyOf h X a .runs)
   unfolding storyOf
   limits none X a = none
   limits (more {e = e} {h = h} k H) X a =
-      by-side (λ (s : Story). Limited factoryLimit (s .runs)) (e .side) X
-      (λ q. limits-after (tableOf h X) a (storyOf h X a) (call-ends L (tableOf h X) (bytes-of H X) (k .call)) (limits H X a)) (limits H X a)
+      by-side (λ (s : Story). Limited (λ n. (1 ≤ n) × (n ≤ 10)) (s .runs)) (e .side) X
+      (λ q. limits-after _ (tableOf h X) a (storyOf h X a) (limit-of (tableOf h X)) (call-ends L (tableOf h X) (bytes-of H X) (k .call)) (limits H X a)) (limits H X a)
+
+  -- where a printer's set ups all have the limit n, its table has, and every run of it
+  set-limit : (n : ℕ) (X : Side) {h : List Entry} → AllHanded h → SetTo n X h → sound (tableOf h X) ≡ true → limitIn (tableOf h X) ≡ n
+  unfolding tableOf
+  set-limit n X none S = λ s. absurd (clash s no-table)
+  set-limit n X (more {e = e} {h = h} k H) S =
+      by-side (λ (t : List ℕ). sound t ≡ true → limitIn t ≡ n) (e .side) X
+      (λ q. limit-after n (tableOf h X) (set-limit n X H (set-before S))
+      (λ size buffer own settings d c. S e h size buffer own settings last (subst (λ (Y : Side). done (tableOf h Y) (e .call) ≡ true) (sym q) d) q c)
+      (call-ends L (tableOf h X) (bytes-of H X) (k .call)))
+      (set-limit n X H (set-before S))
+
+  pub set-limits : (n : ℕ) (X : Side) {h : List Entry} → AllHanded h → SetTo n X h → (a : List ℕ) → Limited (λ m. m ≡ n) (storyOf h X a .runs)
+  unfolding storyOf
+  set-limits n X none S a = none
+  set-limits n X (more {e = e} {h = h} k H) S a =
+      by-side (λ (s : Story). Limited (λ m. m ≡ n) (s .runs)) (e .side) X
+      (λ q. limits-after _ (tableOf h X) a (storyOf h X a) (set-limit n X H (set-before S)) (call-ends L (tableOf h X) (bytes-of H X) (k .call)) (set-limits n X H (set-before S) a))
+      (set-limits n X H (set-before S) a)

@@ -10,7 +10,7 @@ use lib.Dec.{eqb}
 use lib.ListN.{take}
 use borrow.Author.Tests.{eqb-true, ne-eqb}
 use Rattle.protocol.specs.Model.{Commit}
-use Rattle.protocol.specs.Repeats.{Tally, latest, AtMost}
+use Rattle.protocol.specs.Repeats.{Tally, latest, AtMost, newestLimit}
 use Rattle.protocol.proofs.Repeats.{begun-at-most, more-at-most}
 use Rattle.octets.proofs.Scan.{clash}
 use Rattle.groups.specs.Groups.{stored, commitLength}
@@ -79,6 +79,15 @@ run-counts : {limit : ℕ} {r : Run} {b d : Bool} {f : Commit} {p : Pair} {ks : 
 run-counts (no-run e) q = absurd (clash q refl)
 run-counts (unpaired e a b c d z u) q = sym d
 run-counts (paired e a b c d g z u) q = sym z
+
+-- and the newest run's limit is the table's as long as the run lasts
+run-limit : {limit : ℕ} {r : Run} {b d : Bool} {f : Commit} {p : Pair} {ks : List Tally} → RunShows limit r b d f p ks → b ≡ true → newestLimit ks ≡ limit
+run-limit (no-run e) q = absurd (clash q refl)
+run-limit (unpaired e a b c d z u) q = u
+run-limit (paired e a b c d g z u) q = u
+
+pub shows-limit : (limit : ℕ) (p : Peer) (s : Story) → Shows limit p s → s .running ≡ true → newestLimit (s .runs) ≡ limit
+shows-limit limit p s S q = run-limit (S .run) q
 
 pub shows-counts : (limit : ℕ) (p : Peer) (s : Story) → Shows limit p s → s .running ≡ true → p .run .sync ≡ latest (s .stands) (s .runs)
 shows-counts limit p s S q = run-counts (S .run) q

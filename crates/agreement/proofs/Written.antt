@@ -109,7 +109,7 @@ module _ (t : List ℕ) (s : sound t ≡ true) (octets out : List ℕ) where
 
 sends-sound : (t : List ℕ) (c : Call) (x : Frame) → Ends t c → done t c ≡ true → Among x (left t c .answer .frames) → sound (tableAfter t c) ≡ true
 sends-sound t c x (idles d e) k m = absurd (clash k d)
-sends-sound t c x (sets-up d f y n) k m = none-sent f m
+sends-sound t c x (sets-up d f y n i) k m = none-sent f m
 sends-sound t c x (frees {a} d M) k m = none-sent (kill-frames _ a (M .answer)) m
 sends-sound t c x (steps a o w d M D) k m = M .sound
 

@@ -3,18 +3,19 @@
 use mathlib.Core.Path.{_≡_}
 use mathlib.Core.Bool.{Bool, true, false}
 use mathlib.Core.List.{List, _∷_}
-use Prim.Native.Nat.{ℕ}
+use Prim.Native.Nat.{ℕ, suc, _≤_}
 use Rattle.protocol.specs.Model.{Side, A, B, other, Commit}
-use Rattle.protocol.specs.Repeats.{Within, Each, AtMost, Limited}
+use Rattle.protocol.specs.Repeats.{Within, Each, AtMost, Limited, newestLimit}
 use Rattle.octets.specs.Scan.{bit}
 use Rattle.octets.specs.Octets.{sameAddress}
 use Rattle.frame.specs.Frame.{readBody}
 use Rattle.frame.specs.declared.Body.the-variants as body
 use Rattle.record.specs.declared.Link as stored
-use Rattle.record.specs.Layout.{noLink}
+use Rattle.record.specs.Layout.{noLink, limitOf}
+use Rattle.record.specs.SettingsOctets.{settingsOf}
 use Rattle.table.specs.Table.{decodeTable, look}
 use Rattle.agreement.specs.Calls.{initialize, receive, Entry, tableOf, answerOf, stepped, Comes}
-use Rattle.agreement.specs.Story.{Pair, exchanged, Link, unlinked, finished, Story, groupsIn, usesAfresh, usedAfresh, formsPair, storyOf}
+use Rattle.agreement.specs.Story.{Pair, exchanged, Link, unlinked, finished, Story, groupsIn, limitIn, usesAfresh, usedAfresh, formsPair, storyOf}
 use Rattle.agreement.specs.Sent.{Sent, SentOver}
 
 -- ---- the premises
@@ -48,6 +49,13 @@ pub record Premises (own : Side → List ℕ) (h : List Entry) : Type 0 where
       → readBody (groupsIn (tableOf before X)) frame ≡ body.Confirm n → Meets (storyOf before X (own (other X))) p
       → SentOver (other X) (own X) frame (exchanged p) before
 
+-- ---- what a printer is set to
+
+-- the Sync limit of every set up of X that is not refused stands for n
+abbrev pub SetTo : ℕ → Side → List Entry → Type 0
+SetTo n X h = (e : Entry) (before : List Entry) (size : ℕ) (buffer address settings : List ℕ) → Comes e before h → stepped before e ≡ true → e .side ≡ X
+    → e .call ≡ initialize size buffer address settings → limitOf (settingsOf settings .limit) ≡ n
+
 -- ---- the conclusions
 
 -- the link of a table's record says just what the story's link is
@@ -76,8 +84,13 @@ pub record Demand3 (own : Side → List ℕ) (h : List Entry) : Type 0 where
   -- (c) every finished link with the other: the other formed the same pair in a call of the list
   pub formed : Premises own h → (X : Side) (p : Pair) (mark : Bool) → storyOf h X (own (other X)) .link ≡ finished p mark
       → Formed (other X) (own X) (exchanged p) h
-  -- (d) every run at every address has at most limit + 1 repeats before its pair stands and as many after, the limit being that of the table it began in
+  -- (d) "at most limit + 1 repeats before the pair stands and as many after, where the two printers may be set differently": every run at every address, the
+  -- limit being that of the table it began in
   pub repeats : (X : Side) (a : List ℕ) → AtMost (storyOf h X a .runs)
-  -- a sound table's limit is 5: so every run has at most six repeats before its pair stands and six after
-  pub limits : (X : Side) (a : List ℕ) → Limited 5 (storyOf h X a .runs)
-  pub six : (X : Side) (a : List ℕ) → Each (Within 6) (storyOf h X a .runs)
+  -- which is the printer's own table as long as the run lasts
+  pub lasts : (X : Side) (a : List ℕ) → storyOf h X a .running ≡ true → newestLimit (storyOf h X a .runs) ≡ limitIn (tableOf h X)
+  -- "Sync limit 1 to 10": so every run has at most eleven repeats before its pair stands and eleven after, whatever the printers were set to
+  pub limits : (X : Side) (a : List ℕ) → Limited (λ n. (1 ≤ n) × (n ≤ 10)) (storyOf h X a .runs)
+  pub eleven : (X : Side) (a : List ℕ) → Each (Within 11) (storyOf h X a .runs)
+  -- where a printer's set ups all have the limit n, n + 1: six at the factory's 5, or at 0, whatever the other printer is set to
+  pub set : (X : Side) (n : ℕ) → SetTo n X h → (a : List ℕ) → Each (Within (suc n)) (storyOf h X a .runs)

@@ -23,9 +23,9 @@ use Rattle.frame.specs.declared.Body.the-variants as body
 use Rattle.frame.proofs.Shapes.{commit-shape, other-group-shape, token-request-shape, group-refusal-shape, confirm-shape, field-fits}
 use Rattle.record.specs.declared.Peer.{Peer}
 use Rattle.record.proofs.Laws.{form-width, form-groups}
-use Rattle.record.specs.Layout.{formIn, widthIn, groupsOf, noPeer, decodeHeader, headerOf, factoryLimit, periodOf, limitOf}
+use Rattle.record.specs.Layout.{formIn, widthIn, groupsOf, noPeer, decodeHeader, headerOf, limitOf}
 use Rattle.soundness.specs.Soundness.{usable, highSync, commitOk}
-use Rattle.soundness.proofs.Laws.{Groups, SettingsForm, header-form, settings-form, header-groups, header-width, header-count, listed-known, groups-length}
+use Rattle.soundness.proofs.Laws.{Groups, SettingsForm, header-form, settings-form, limit-range, header-groups, header-width, header-count, listed-known, groups-length}
 use Rattle.table.specs.Table.{Table, decodeTable, slot, slots, belongs, finds, lookBy, look, sound, entry, foundEntry}
 use Rattle.table.specs.declared.Entry.{Entry}
 use Rattle.table.specs.declared.Entry.the-variants as entry-is
@@ -60,11 +60,6 @@ groupsIn t = groupsOf (decodeTable t .header)
 abbrev pub highIn : List ℕ → ℕ
 highIn t = highSync (decodeTable t .header)
 
--- an entry of 0 stands for the factory's limit
-entry-limit : (x : ℕ) → x ≡ 0 → limitOf x ≡ factoryLimit
-unfolding limitOf
-entry-limit x e = rw e
-
 module _ (t : List ℕ) (s : sound t ≡ true) where
   settings : SettingsForm (formIn (decodeTable t .header)) (decodeTable t .header .settings)
   settings = settings-form _ _ (header-form _ (sound-header t s) .settings)
@@ -79,12 +74,12 @@ module _ (t : List ℕ) (s : sound t ≡ true) where
   pub groups-count : length (groupsIn t) ≡ decodeTable t .header .settings .count
   groups-count = groups-length _ _ _ (form-groups _) three-groups (settings .groups)
 
-  -- the Sync limit is the factory's, and the highest Sync is in its octet's range
-  pub factory-limit : limitOf (decodeTable t .header .settings .limit) ≡ factoryLimit
-  factory-limit = entry-limit _ (settings .limit)
+  -- the Sync limit is in its range, and so the highest Sync is in its octet's
+  pub limit-of : (1 ≤ limitOf (decodeTable t .header .settings .limit)) × (limitOf (decodeTable t .header .settings .limit) ≤ 10)
+  limit-of = limit-range _ (settings .limit)
 
   pub high-low : highIn t < 256
-  high-low = let e = factory-limit in omega arith
+  high-low = omega (arith, limit-of .1)
 
   pub sound-lists : Lists (groupsIn t)
   sound-lists =
@@ -107,13 +102,6 @@ module _ (t : List ℕ) (s : sound t ≡ true) where
     slot-kept k l =
         let h : k < length (decodeTable t .peers) = omega (arith, peers-held t (slots (decodeTable t)) (sound-whole t s), l) in
         record { fits = fit-slot (decodeTable t) k (fit-decoded t _ b (sound-whole t s)) h; form = sound-peer t s k l; place = λ d. refl }
-
--- THE TIMES of sound tables are the same: both entries are 0 in each
-pub same-clock : (t u : List ℕ) → sound t ≡ true → sound u ≡ true → (time : ℕ) → clockOf (decodeTable t .header) time ≡ clockOf (decodeTable u .header) time
-same-clock t u s w time =
-    let p : decodeTable t .header .settings .period ≡ decodeTable u .header .settings .period = settings t s .period ∙ sym (settings u w .period) in
-    let l : decodeTable t .header .settings .limit ≡ decodeTable u .header .settings .limit = settings t s .limit ∙ sym (settings u w .limit) in
-    λ i. record { time = time; period = periodOf (p i); limit = limitOf (l i) }
 
 -- ---- what a call that goes on knows
 

@@ -16,7 +16,7 @@ use Rattle.groups.specs.Groups.{freshOk}
 use Rattle.record.specs.declared.Peer.{Peer}
 use Rattle.record.specs.declared.Settings.{Settings}
 use Rattle.record.specs.declared.Form.{Form}
-use Rattle.record.specs.Layout.{widthIn, groupsOf, noPeer}
+use Rattle.record.specs.Layout.{widthIn, groupsOf, noPeer, periodOf, limitOf}
 use Rattle.soundness.specs.Soundness.{usable}
 use Rattle.table.specs.Table.{Table, decodeTable, slot, belongs, finds, lookBy, look, sound, entry}
 use Rattle.table.specs.Initial.{slotsFor, initialOk, initialTable}
@@ -36,7 +36,7 @@ use Rattle.answers.proofs.Ending.{Turned, denied, done, turn-ends}
 use Rattle.writer.specs.Writer.{writesParts, writesRecordBy, writesRecord}
 use Rattle.calls.specs.Calls.{termsOf, clockOf, initializes, admitStart, startTurn, startStep, initiates, killTurn, killStep, kills, admitFrame, frameTurn, frameStep, receives, dueSlot, clockStep, expires}
 use Rattle.call_laws.specs.Alike.{SameFor, Alike}
-use Rattle.call_laws.proofs.Good.{same-clock, initiate-good, kill-good, receive-good}
+use Rattle.call_laws.proofs.Good.{initiate-good, kill-good, receive-good}
 use Rattle.call_laws.proofs.Ends.{Came, came, unsound, unusable, lacks, has, finish-answer, said-not, dueLeft, due-answer, takes, clock-ends}
 
 -- ---- both tables come to the same
@@ -57,6 +57,12 @@ having T a k e = rw e (eqb-true _ _ (and-left _ _ (found-below T a k e .1)))
 slot-of : (T : Table) (a : List ℕ) (k : ℕ) → finds T a ≡ found.At k → slot T k ≡ look T a
 unfolding look lookBy
 slot-of T a k e = ap (lookBy T) (sym e)
+
+-- tables of the same first period and Sync limit have the same clock
+same-clock : (t u : List ℕ) (time : ℕ) → periodOf (decodeTable t .header .settings .period) ≡ periodOf (decodeTable u .header .settings .period)
+    → limitOf (decodeTable t .header .settings .limit) ≡ limitOf (decodeTable u .header .settings .limit)
+    → clockOf (decodeTable t .header) time ≡ clockOf (decodeTable u .header) time
+same-clock t u time p l = λ i. record { time = time; period = p i; limit = l i }
 
 module _ (t u a : List ℕ) (S : SameFor t u a) where
   same-used : look (decodeTable t) a .used ≡ look (decodeTable u) a .used
@@ -150,7 +156,7 @@ module _ (t u a : List ℕ) (A : Alike t u a) where
   unfolding startStep
   start-same time fresh f k n q =
       let e = terms-same t u a A f k n in
-      let κ = same-clock t u (A .same .sound₁) (A .same .sound₂) time in
+      let κ = same-clock t u time (A .same .period) (A .same .limit) in
       let w = A .same .width in
       rw (q, e, κ, w)
 
@@ -203,7 +209,7 @@ module _ (t u a : List ℕ) (A : Alike t u a) (time : ℕ) (frame fresh expected
   unfolding frameStep
   frame-same f k n q =
       let e = terms-same t u a A f k n in
-      let κ = same-clock t u (A .same .sound₁) (A .same .sound₂) time in
+      let κ = same-clock t u time (A .same .period) (A .same .limit) in
       let g = A .same .groups in
       let w = A .same .width in
       rw (q, e, κ, g, w)
@@ -247,11 +253,13 @@ unfolding clockStep
 clock-same T U k j time κ q = rw (q, κ) (clock-alone T U (found.At k) (found.At j) _ (slot U j))
 
 pub expire-isolated : (t u : List ℕ) (time k j : ℕ) → Bytes t → Bytes u → time < 2 ^ 32 → sound t ≡ true → sound u ≡ true
+    → periodOf (decodeTable t .header .settings .period) ≡ periodOf (decodeTable u .header .settings .period)
+    → limitOf (decodeTable t .header .settings .limit) ≡ limitOf (decodeTable u .header .settings .limit)
     → dueSlot (decodeTable t) time ≡ found.At k → dueSlot (decodeTable u) time ≡ found.At j → slot (decodeTable t) k ≡ slot (decodeTable u) j
     → Isolated (slot (decodeTable t) k .address) (expires t time) (expires u time)
-expire-isolated t u time k j bt bu ht st su et eu q =
+expire-isolated t u time k j bt bu ht st su ep el et eu q =
     rw (takes t time k st et, takes u time j su eu)
-    (let w = clock-same (decodeTable t) (decodeTable u) k j time (same-clock t u st su time) q in
+    (let w = clock-same (decodeTable t) (decodeTable u) k j time (same-clock t u time ep el) q in
     record {
       answer = due-answer t time k ∙ ap (λ (s : Step). said s (slot (decodeTable t) k .address)) w ∙ ap (λ (p : Peer). said (clockStep (decodeTable u) j time) (p .address)) q
           ∙ sym (due-answer u time j);

@@ -15,7 +15,7 @@ use Rattle.octets.proofs.Laws.{part-part}
 use Rattle.octets.proofs.Scan.{clash, cases, and-right}
 use Rattle.octets.proofs.Tests.{same-address}
 use Rattle.record.specs.declared.Form.{Form}
-use Rattle.record.specs.Layout.{formOf, widthIn, groupsOf, decodeHeader, headerOf, headerWidths, noPeer}
+use Rattle.record.specs.Layout.{formOf, widthIn, groupsOf, decodeHeader, headerOf, headerWidths, noPeer, periodOf, limitOf}
 use Rattle.record.specs.Codec.{cut}
 use Rattle.record.specs.declared.Settings.{Settings}
 use Rattle.table.specs.Table.{Table, decodeTable, slot, inUse, belongs, finds, lookBy, look, sound}
@@ -32,7 +32,7 @@ use Rattle.call_laws.proofs.Ends.{look-found, set-up-leaves}
 use Rattle.call_laws.proofs.Sound.{Keeping, initiate-keeps, kill-keeps, receive-keeps, expire-keeps-due, expire-keeps-none, initialize-makes}
 use Rattle.call_laws.proofs.Isolated.{Isolated, initiate-isolated, kill-isolated, receive-isolated, expire-isolated, write-record-isolated}
 
--- ---- what every call keeps for every address: a sound table, own address and groups
+-- ---- what every call keeps for every address: a sound table, own address, groups, width, first period and Sync limit
 
 record Stays (t u : List ℕ) : Type 0 where
   pub sound : sound u ≡ true
@@ -40,9 +40,11 @@ record Stays (t u : List ℕ) : Type 0 where
   pub own : decodeTable u .header .own ≡ decodeTable t .header .own
   pub groups : groupsOf (decodeTable u .header) ≡ groupsOf (decodeTable t .header)
   pub width : widthIn (decodeTable u .header) ≡ widthIn (decodeTable t .header)
+  pub period : periodOf (decodeTable u .header .settings .period) ≡ periodOf (decodeTable t .header .settings .period)
+  pub limit : limitOf (decodeTable u .header .settings .limit) ≡ limitOf (decodeTable t .header .settings .limit)
 
 stays-itself : (t : List ℕ) → Bytes t → sound t ≡ true → Stays t t
-stays-itself t b s = record { sound = s; bytes = b; own = refl; groups = refl; width = refl }
+stays-itself t b s = record { sound = s; bytes = b; own = refl; groups = refl; width = refl; period = refl; limit = refl }
 
 module _ (t b u : List ℕ) (K : Keeping t b u) where
   header-part : (at n : ℕ) → at + n ≤ 26 → part u (6 + at) n ≡ part t (6 + at) n
@@ -65,8 +67,17 @@ module _ (t b u : List ℕ) (K : Keeping t b u) where
   unfolding decodeTable decodeHeader headerOf cut headerWidths
   width-kept = let e : part u 6 2 ≡ part t 6 2 = header-part 0 2 (omega arith) in rw e
 
+  period-kept : periodOf (decodeTable u .header .settings .period) ≡ periodOf (decodeTable t .header .settings .period)
+  unfolding decodeTable decodeHeader headerOf cut headerWidths
+  period-kept = let e : part u 14 2 ≡ part t 14 2 = header-part 8 2 (omega arith) in rw e
+
+  limit-kept : limitOf (decodeTable u .header .settings .limit) ≡ limitOf (decodeTable t .header .settings .limit)
+  unfolding decodeTable decodeHeader headerOf cut headerWidths
+  limit-kept = let e : part u 23 1 ≡ part t 23 1 = header-part 17 1 (omega arith) in rw e
+
   keeping-stays : Stays t u
-  keeping-stays = record { sound = K .table .sound; bytes = K .bytes; own = own-kept; groups = groups-kept; width = width-kept }
+  keeping-stays =
+      record { sound = K .table .sound; bytes = K .bytes; own = own-kept; groups = groups-kept; width = width-kept; period = period-kept; limit = limit-kept }
 
 call-stays : (t : List ℕ) (c : PeerCall) → Bytes t → sound t ≡ true → Handed c → Stays t (left t c .table)
 call-stays t (initiate address time fresh) b s (an-initiate la ba ht bf) = keeping-stays t address _ (initiate-keeps t address time fresh b la ba ht bf s)
@@ -85,7 +96,15 @@ after-stays t [] b s none = stays-itself t b s
 after-stays t (c ∷ cs) b s (more h hs) =
     let R = after-stays t cs b s hs in
     let C = call-stays (after t cs) c (R .bytes) (R .sound) h in
-    record { sound = C .sound; bytes = C .bytes; own = C .own ∙ R .own; groups = C .groups ∙ R .groups; width = C .width ∙ R .width }
+    record {
+      sound = C .sound;
+      bytes = C .bytes;
+      own = C .own ∙ R .own;
+      groups = C .groups ∙ R .groups;
+      width = C .width ∙ R .width;
+      period = C .period ∙ R .period;
+      limit = C .limit ∙ R .limit;
+    }
 
 -- ---- a call about another address leaves this one its record
 
@@ -127,7 +146,7 @@ module _ (t u a : List ℕ) (bt : Bytes t) (bu : Bytes u) (la : length a ≡ 6) 
   unfolding belongs lookBy noPeer
   same-expire time (found.At k) (found.At j) ht e i m n =
       subst (λ (x : List ℕ). Isolated x (expires t time) (expires u time)) (taken-address t a bt (S .sound₁) la ba time k e m)
-      (expire-isolated t u time k j bt bu ht (S .sound₁) (S .sound₂) e i
+      (expire-isolated t u time k j bt bu ht (S .sound₁) (S .sound₂) (S .period) (S .limit) e i
       (taken-record t a bt (S .sound₁) la ba time k e m ∙ S .peer ∙ sym (taken-record u a bu (S .sound₂) la ba time j i n)))
   same-expire time (found.At k) found.Nothing ht e i m n = absurd (clash n refl)
   same-expire time found.Nothing g ht e i m n = absurd (clash m refl)
@@ -183,6 +202,8 @@ moved t u v w a S X Y e =
       own = X .own ∙ S .own ∙ sym (Y .own);
       groups = X .groups ∙ S .groups ∙ sym (Y .groups);
       width = X .width ∙ S .width ∙ sym (Y .width);
+      period = X .period ∙ S .period ∙ sym (Y .period);
+      limit = X .limit ∙ S .limit ∙ sym (Y .limit);
       peer = e;
     }
 
@@ -275,11 +296,11 @@ pub others-alike : (t a : List ℕ) (cs : List PeerCall) → Bytes t → length 
     → Alike t (after t cs) a
 unfolding reaches after
 others-alike t a cs b la ba s hs e c f =
-    let S : SameFor t t a = record { sound₁ = s; sound₂ = s; own = refl; groups = refl; width = refl; peer = refl } in
+    let S : SameFor t t a = record { sound₁ = s; sound₂ = s; own = refl; groups = refl; width = refl; period = refl; limit = refl; peer = refl } in
     record { same = isolation t t a b b la ba S [] cs none hs (sym e) .left; crowded = c; full = f }
 
--- ---- where the lists begin: after two set ups of one form with the same own address and groups the tables are the same for every address, whatever the buffers held, their
--- numbers of slots and their thresholds
+-- ---- where the lists begin: after two set ups of one form with the same own address, groups, first period and Sync limit the tables are the same for every
+-- address, whatever the buffers held, their numbers of slots and their thresholds; a zero and what it stands for are the same
 
 initial-look : (f : Form) (s : Settings) (own a : List ℕ) (n : ℕ) → look (initialTable f s own n) a ≡ noPeer
 unfolding look lookBy
@@ -298,9 +319,10 @@ module _ (size : ℕ) where
   initialized t own s f e = ap decodeTable (set-up-leaves size t own s) ∙ initial-decoded form (initial-served size s own (length t) e) s own t f e
 
   pub initialize-same : (t u own a : List ℕ) (s r : Settings) → FitSettings s own → FitSettings r own → s .count ≡ r .count → s .groups ≡ r .groups
+      → periodOf (s .period) ≡ periodOf (r .period) → limitOf (s .limit) ≡ limitOf (r .limit)
       → initialOk form s own (length t) ≡ true → initialOk form r own (length u) ≡ true → SameFor (initializes form t own s .table) (initializes form u own r .table) a
   unfolding initialTable initialHeader
-  initialize-same t u own a s r f g c q e i =
+  initialize-same t u own a s r f g c q p l e i =
       let x = initialized t own s f e in
       let y = initialized u own r g i in
       record {
@@ -309,5 +331,7 @@ module _ (size : ℕ) where
         own = ap (λ (T : Table). T .header .own) x ∙ sym (ap (λ (T : Table). T .header .own) y);
         groups = ap (λ (T : Table). groupsOf (T .header)) x ∙ (rw (c, q)) ∙ sym (ap (λ (T : Table). groupsOf (T .header)) y);
         width = ap (λ (T : Table). widthIn (T .header)) x ∙ sym (ap (λ (T : Table). widthIn (T .header)) y);
+        period = ap (λ (T : Table). periodOf (T .header .settings .period)) x ∙ p ∙ sym (ap (λ (T : Table). periodOf (T .header .settings .period)) y);
+        limit = ap (λ (T : Table). limitOf (T .header .settings .limit)) x ∙ l ∙ sym (ap (λ (T : Table). limitOf (T .header .settings .limit)) y);
         peer = ap (λ (T : Table). look T a) x ∙ initial-look form s own a _ ∙ sym (ap (λ (T : Table). look T a) y ∙ initial-look form r own a _);
       }

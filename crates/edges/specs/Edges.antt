@@ -4,17 +4,20 @@ use mathlib.Core.Bool.{Bool, true, _&&_}
 use mathlib.Core.List.{List, [], _∷_, _++_}
 use Prim.Native.Nat.{ℕ, zero, suc, _+_}
 use lib.ListN.{replicate}
-use Rattle.octets.specs.Scan.{if_then_else_}
-use Rattle.octets.specs.Octets.{same}
+use Rattle.octets.specs.Scan.{if_then_else_, bit}
+use Rattle.octets.specs.Octets.{oct, same}
 use Rattle.octets.specs.declared.Found.{Found}
 use Rattle.octets.specs.declared.Found.the-variants as found
 use Rattle.groups.specs.Groups.{width}
 use Rattle.frame.specs.Frame.{head}
 use Rattle.record.specs.declared.Peer.{Peer}
 use Rattle.record.specs.declared.Form.{Form}
-use Rattle.record.specs.Layout.{formOf, groupsOf, noRun, noLink, noPeer}
+use Rattle.record.specs.declared.Settings.{Settings}
+use Rattle.record.specs.Layout.{formOf, groupsOf, noRun, noLink, noPeer, periodOf, limitOf}
+use Rattle.record.specs.SettingsOctets.{settingsOf}
+use Rattle.soundness.specs.Soundness.{highSync, runOk, linkOk}
 use Rattle.table.specs.Table.{Table, placed, slot, lookBy}
-use Rattle.table.specs.Initial.{slotsFor, lengthOk}
+use Rattle.table.specs.Initial.{made, slotsFor, lengthOk, initialOk, initialHeader}
 use Rattle.rules.specs.declared.Act.{Act}
 use Rattle.rules.specs.declared.Act.the-variants.{Drop, RefuseGroup, AskToken, NoSlot, AnswerCommit, ConfirmCommit, ReplyToken, SwitchGroup, RepeatCommit, RepeatRefusal, ResendBoth, ConfirmAgain, GiveUp, Accept, HearAgain, HearLast, EndLink, Begin}
 use Rattle.rules.specs.declared.Frame.{Frame}
@@ -38,25 +41,30 @@ address n = 2 ∷ 0 ∷ 0 ∷ 0 ∷ 0 ∷ n ∷ []
 abbrev pub own : List ℕ
 own = address 255
 
-abbrev pub emptyOf : ℕ → ℕ → List ℕ → Table
-emptyOf size count groups =
+-- a first period and a Sync limit of 0, unless said
+abbrev pub emptyWith : ℕ → ℕ → List ℕ → ℕ → ℕ → Table
+emptyWith size count groups period limit =
     record {
       header = record {
         geometry = record { slots = 8; size = size; first = 32 };
         counts = record { used = 0; opened = 0; spare = 0 };
         spare = 0;
         own = own;
-        settings = record { count = count; groups = groups; threshold = 5; period = 0; limit = 0 };
+        settings = record { count = count; groups = groups; threshold = 5; period = period; limit = limit };
       };
       peers = replicate 8 noPeer;
     }
 
 abbrev pub empty : Table
-empty = emptyOf 864 2 (19 ∷ 20 ∷ 0 ∷ [])
+empty = emptyWith 864 2 (19 ∷ 20 ∷ 0 ∷ []) 0 0
 
 -- of the form of 1,080 octets, with all three groups
 abbrev pub wideEmpty : Table
-wideEmpty = emptyOf 1080 3 (21 ∷ 20 ∷ 19 ∷ [])
+wideEmpty = emptyWith 1080 3 (21 ∷ 20 ∷ 19 ∷ []) 0 0
+
+-- with a first period and a Sync limit
+abbrev pub paced : ℕ → ℕ → Table
+paced period limit = emptyWith 864 2 (19 ∷ 20 ∷ 0 ∷ []) period limit
 
 -- a run in group 19 in a state, Committed or Confirmed, with a Sync: Sc is Sync + 1 in Confirmed, else 0
 abbrev pub scOf : ℕ → ℕ → ℕ
@@ -108,6 +116,10 @@ withOpen zero = empty
 withOpen (suc n) = placed (withOpen n) n (running n 1 0)
 
 -- ---- what is handed over
+
+-- settings with groups 19 and 20, threshold 5, a first period and a Sync limit, as C hands them over
+abbrev pub settingsOctets : ℕ → ℕ → List ℕ
+settingsOctets period limit = 2 ∷ 0 ∷ 19 ∷ 0 ∷ 20 ∷ 0 ∷ 0 ∷ 0 ∷ 5 ∷ 0 ∷ oct 2 period ++ (limit ∷ 0 ∷ 0 ∷ 0 ∷ [])
 
 abbrev pub stock : List ℕ
 stock = replicate 288 0
@@ -175,6 +187,19 @@ formNumbers f = f .size ∷ f .slots ∷ f .groups ∷ (if f .slots is 0 then []
 abbrev pub setUpNumbers : Form → ℕ → List ℕ
 setUpNumbers f length = if lengthOk f length then 0 ∷ slotsFor f length ∷ [] else number why.Settings ∷ []
 
+-- the first period and the Sync limit that a set up of one slot stores, and what the entries stand for, or the refusal's number
+abbrev pub storedNumbers : Settings → List ℕ
+storedNumbers s = s .period ∷ s .limit ∷ periodOf (s .period) ∷ limitOf (s .limit) ∷ []
+
+abbrev pub setWithNumbers : Settings → List ℕ
+setWithNumbers s = if initialOk made s own 1112 then 0 ∷ storedNumbers (initialHeader made s own 1 .settings) else number why.Settings ∷ []
+
+-- 1 for each of a run in Committed, a run in Confirmed and a link that have their form, with a Sync, in a table of this highest one
+abbrev pub formedNumbers : ℕ → ℕ → List ℕ
+formedNumbers high sync =
+    bit (runOk (19 ∷ 20 ∷ []) high (running 1 1 sync .run)) ∷ bit (runOk (19 ∷ 20 ∷ []) high (running 1 2 sync .run))
+    ∷ bit (linkOk (19 ∷ 20 ∷ []) high (linked 1 sync 1 .link)) ∷ []
+
 -- the acts of the book, told apart
 unfoldable pub named : Act → ℕ
 named Drop = 0
@@ -227,6 +252,14 @@ pub data Question : Type 0 where
   -- a frame from a new peer at a printer without group 21, and at one with it: the act, stock group used, frames
   Without21 : List ℕ → Question
   With21 : List ℕ → Question
+  -- what a set up with a first period and a Sync limit stores, and what they stand for, or the refusal's number
+  SetWith : ℕ → ℕ → Question
+  -- with a first period and a Sync limit, a run in Committed with a Sync whose t0 is due at reading 0: the act, event, Sync and t0 left, frames
+  ExpiredWith : ℕ → ℕ → ℕ → Question
+  -- with a Sync limit, a link with a Sync and Rc 1 gets a Confirm with counter 2 and verdict 1: the act, Rc and Sync left, frames
+  ConfirmedWith : ℕ → ℕ → Question
+  -- with a Sync limit, which of a run in Committed, one in Confirmed and a link may have a Sync
+  StoredWith : ℕ → ℕ → Question
 
 -- a frame call's tests on an empty table
 abbrev pub received : Table → List ℕ → List ℕ → List ℕ
@@ -248,6 +281,9 @@ heard = heardWith stock
 abbrev pub sayExpired : Act → Step → List ℕ
 sayExpired a s = named a ∷ eventNumber (s .event) ∷ s .peer .run .sync ∷ framesNumbers (s .frames)
 
+abbrev pub sayPaced : Act → Step → List ℕ
+sayPaced a s = named a ∷ eventNumber (s .event) ∷ s .peer .run .sync ∷ s .peer .run .t0 ∷ framesNumbers (s .frames)
+
 abbrev pub sayRequested : Act → Step → List ℕ
 sayRequested a s =
     named a ∷ eventNumber (s .event) ∷ s .peer .run .state ∷ s .peer .run .sync ∷ s .peer .run .t0 ∷ s .peer .run .toklen ∷ framesNumbers (s .frames)
@@ -261,6 +297,9 @@ sayOffered a s = named a ∷ s .afresh ∷ framesNumbers (s .frames)
 -- each asks the ladder for the act and the call for its step
 abbrev pub answerExpired : Table → List ℕ
 answerExpired T = sayExpired (clockAct (slot T 7) 0) (clockStep T 7 0)
+
+abbrev pub answerPaced : Table → List ℕ
+answerPaced T = sayPaced (clockAct (slot T 7) 0) (clockStep T 7 0)
 
 abbrev pub answerConfirmed : Table → List ℕ → ℕ → List ℕ
 answerConfirmed T frame verdict =
@@ -302,6 +341,10 @@ answer (Requested n group) = answerRequested (requested n) group
 answer (Offered n) = answerOffered stock (withOpen n) (commitOctets 96)
 answer (Without21 s) = answerOffered stock empty s
 answer (With21 s) = answerOffered wideStock wideEmpty s
+answer (SetWith period limit) = setWithNumbers (settingsOf (settingsOctets period limit))
+answer (ExpiredWith period limit sync) = answerPaced (placed (paced period limit) 7 (running 1 1 sync))
+answer (ConfirmedWith limit sync) = answerConfirmed (placed (paced 0 limit) 7 (linked 1 sync 1)) (confirmOctets 2 32) 1
+answer (StoredWith limit sync) = formedNumbers (highSync (paced 0 limit .header)) sync
 
 -- ---- the table of cases
 
@@ -397,4 +440,29 @@ edges =
     ∷ case (Requested 6 19) (named ReplyToken ∷ 2 ∷ 0 ∷ 0 ∷ 0 ∷ 0 ∷ [])
     -- request j: a 76 for another group stays a drop, above the limit too
     ∷ case (Requested 6 20) (named Drop ∷ 0 ∷ 1 ∷ 6 ∷ 2560 ∷ 32 ∷ [])
+    -- request i, "first period 10 to 1,000 ms", "Sync limit 1 to 10": what is stored and what it stands for; "Zero means the factory's 40 and 5", stored as 0
+    ∷ case (SetWith 0 0) (0 ∷ 0 ∷ 0 ∷ 40 ∷ 5 ∷ [])
+    ∷ case (SetWith 40 5) (0 ∷ 40 ∷ 5 ∷ 40 ∷ 5 ∷ [])
+    ∷ case (SetWith 10 1) (0 ∷ 10 ∷ 1 ∷ 10 ∷ 1 ∷ [])
+    ∷ case (SetWith 1000 10) (0 ∷ 1000 ∷ 10 ∷ 1000 ∷ 10 ∷ [])
+    ∷ case (SetWith 9 5) (1 ∷ [])
+    ∷ case (SetWith 1001 5) (1 ∷ [])
+    ∷ case (SetWith 40 11) (1 ∷ [])
+    -- request i: the limit repeats, the limit + 1 gives up; the longest delay, 1,000 × 2^11 ms
+    ∷ case (ExpiredWith 10 1 1) (named RepeatCommit ∷ 0 ∷ 2 ∷ 40 ∷ 1 ∷ 0 ∷ 19 ∷ 0 ∷ [])
+    ∷ case (ExpiredWith 10 1 2) (named RepeatCommit ∷ 2 ∷ 0 ∷ 0 ∷ [])
+    ∷ case (ExpiredWith 1000 10 10) (named RepeatCommit ∷ 0 ∷ 11 ∷ 2048000 ∷ 1 ∷ 0 ∷ 19 ∷ 0 ∷ [])
+    ∷ case (ExpiredWith 1000 10 11) (named RepeatCommit ∷ 2 ∷ 0 ∷ 0 ∷ [])
+    -- request i: a link answers up to the limit too, and ends above it
+    ∷ case (ConfirmedWith 1 1) (named HearAgain ∷ 2 ∷ 2 ∷ 2 ∷ 0 ∷ 0 ∷ 65535 ∷ [])
+    ∷ case (ConfirmedWith 1 2) (named EndLink ∷ 0 ∷ 0 ∷ [])
+    ∷ case (ConfirmedWith 10 10) (named HearAgain ∷ 2 ∷ 11 ∷ 2 ∷ 0 ∷ 0 ∷ 65535 ∷ [])
+    ∷ case (ConfirmedWith 10 11) (named EndLink ∷ 0 ∷ 0 ∷ [])
+    -- request i, "A stored Sync runs from 0 to limit + 1", in run and link
+    ∷ case (StoredWith 1 2) (1 ∷ 1 ∷ 1 ∷ [])
+    ∷ case (StoredWith 1 3) (0 ∷ 0 ∷ 0 ∷ [])
+    ∷ case (StoredWith 0 6) (1 ∷ 1 ∷ 1 ∷ [])
+    ∷ case (StoredWith 0 7) (0 ∷ 0 ∷ 0 ∷ [])
+    ∷ case (StoredWith 10 11) (1 ∷ 1 ∷ 1 ∷ [])
+    ∷ case (StoredWith 10 12) (0 ∷ 0 ∷ 0 ∷ [])
     ∷ []

@@ -3,11 +3,13 @@ use mathlib.Core.Path.{_≡_, refl, sym, ap, _∙_, subst}
 use mathlib.Core.Logic.{_⊎_, inl, inr}
 use mathlib.Core.Bool.{true}
 use mathlib.Core.List.{List}
-use Prim.Native.Nat.{ℕ, _+_, _-_, _≤_, _<_}
+use Prim.Native.Nat.{ℕ, _+_, _-_, _*_, _^_, _≤_, _<_}
+use native.Mathlib.Nat.{lt-of-le-of-lt, mul-le-mul}
 use native.Mathlib.Omega.{arith}
 use native.Mathlib.Decide.{ℕ-discrete}
 use lib.Dec.{lit≤, lit<}
 use lib.ListN.{length, take, drop, replicate, length-replicate}
+use lib.Pow.{pow-mono}
 use lib.Seq.{length-take-le}
 use Rattle.octets.specs.Octets.{Bytes}
 use Rattle.octets.specs.declared.Found.{Found}
@@ -18,11 +20,11 @@ use Rattle.groups.proofs.Fresh.{fresh-length}
 use Rattle.record.specs.declared.Header.{Header}
 use Rattle.record.specs.declared.Peer.{Peer}
 use Rattle.record.specs.declared.Run.{Run}
-use Rattle.record.specs.Layout.{groupsOf, widthIn, decodePeer, decodeHeader, headerOf, recordSize, recordAt, wide, noPeer, noRun, periodOf, limitOf, factoryPeriod, factoryLimit}
+use Rattle.record.specs.Layout.{groupsOf, widthIn, decodePeer, decodeHeader, headerOf, recordSize, recordAt, wide, noPeer, noRun, limitOf}
 use Rattle.record.proofs.Laws.{ShapeRun, ShapePeer, shape-peer, form-width}
 use Rattle.record.proofs.Windows.{no-peer-left}
 use Rattle.soundness.specs.Soundness.{headerOk, highSync, runOk, peerOk}
-use Rattle.soundness.proofs.Laws.{header-form, settings-form, header-groups, header-width, header-count, run-states, run-is-committed, run-is-confirmed, run-unused, peer-in-use, peer-unused}
+use Rattle.soundness.proofs.Laws.{header-form, settings-form, period-range, limit-range, header-groups, header-width, header-count, run-states, run-is-committed, run-is-confirmed, run-unused, peer-in-use, peer-unused}
 use Rattle.table.specs.Table as table
 use Rattle.table.specs.Table.{decodeTable, slots, slot, sound, entry, Reached, Sized, Enters}
 use Rattle.table.specs.declared.Entrance.{Entrance}
@@ -116,16 +118,18 @@ module _ (t a : List ℕ) (r : Entrance) (E : Enters r t a) where
 pub met-listing : (t : List ℕ) (h : Header) (E : Entry) → Met t h E → Listing h E
 met-listing t h E M = record { here = λ k q. held-header t h (found.At k) (M .here k q); absent = λ q. held-header t h found.Nothing (M .absent q) }
 
--- ---- the clock: an entry of 0 stands for the factory's, and its longest delay fits
+-- ---- the clock: the longest delay that settings have, 1,000 × 2^11 ms, fits
 
-factory-paced : (κ : Clock) → κ .period ≡ factoryPeriod → κ .limit ≡ factoryLimit → Paced κ
-factory-paced κ p l = record { few = rw l (lit≤ tt); fits = rw (p, l) (lit< tt) }
+range-paced : (κ : Clock) → κ .period ≤ 1000 → κ .limit ≤ 10 → Paced κ
+range-paced κ p l =
+    let high : κ .limit + 1 ≤ 11 = omega (arith, l) in
+    let most : κ .period * 2 ^ (κ .limit + 1) ≤ 1000 * 2 ^ 11 = mul-le-mul p (pow-mono high) in
+    record { few = omega (arith, l); fits = lt-of-le-of-lt most (lit< tt) }
 
 paced : (κ : Clock) (h : Header) → headerOk h ≡ true → Clocked κ h → Paced κ
-unfolding periodOf limitOf
 paced κ h ok c =
     let s = settings-form _ (h .settings) (header-form h ok .settings) in
-    factory-paced κ (c .period ∙ rw (s .period) refl) (c .limit ∙ rw (s .limit) refl)
+    range-paced κ (omega (arith, c .period, period-range _ (s .period) .1)) (omega (arith, c .limit, limit-range _ (s .limit) .1))
 
 -- ---- the record's octets: Sync and Sc are in their range
 

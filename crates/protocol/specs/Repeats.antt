@@ -1,5 +1,4 @@
 -- The repeats of one printer's runs with one address, the newest run first.
-use mathlib.Core.Path.{_≡_}
 use mathlib.Core.Bool.{Bool, true, false}
 use mathlib.Core.List.{List, [], _∷_}
 use Prim.Native.Nat.{ℕ, suc, _≤_}
@@ -40,6 +39,11 @@ pub data Each (P : Tally → Type 0) : List Tally → Type 0 where
 abbrev pub AtMost : List Tally → Type 0
 AtMost rs = Each (λ r. Within (suc (r .limit)) r) rs
 
--- every run began in a table of the limit n
-abbrev pub Limited : ℕ → List Tally → Type 0
-Limited n rs = Each (λ r. r .limit ≡ n) rs
+-- every run began in a table of such a limit
+abbrev pub Limited : (ℕ → Type 0) → List Tally → Type 0
+Limited P rs = Each (λ r. P (r .limit)) rs
+
+-- the newest run's limit
+abbrev pub newestLimit : List Tally → ℕ
+newestLimit [] = 0
+newestLimit (r ∷ rs) = r .limit

@@ -124,10 +124,11 @@ replied x t l r answer given e q w = record { returns = q ∙ ap (λ (y : Answer
 
 -- ---- the settings
 
-pub settings-are : (s : List ℕ) (n g h i k : ℕ) → n ≡ num (part s 0 1) → g ≡ num (part s 2 2) → h ≡ num (part s 4 2) → i ≡ num (part s 6 2) → k ≡ num (part s 8 2)
-    → record { count = n; groups = g ∷ h ∷ i ∷ []; threshold = k; period = 0; limit = 0 } ≡ settingsOf s
+pub settings-are : (s : List ℕ) (n g h i k p l : ℕ) → n ≡ num (part s 0 1) → g ≡ num (part s 2 2) → h ≡ num (part s 4 2) → i ≡ num (part s 6 2) → k ≡ num (part s 8 2)
+    → p ≡ num (part s 10 2) → l ≡ num (part s 12 1)
+    → record { count = n; groups = g ∷ h ∷ i ∷ []; threshold = k; period = p; limit = l } ≡ settingsOf s
 unfolding settingsOf
-settings-are s n g h i k en eg eh ei ek = rw (en, eg, eh, ei, ek)
+settings-are s n g h i k p l en eg eh ei ek ep el = rw (en, eg, eh, ei, ek, ep, el)
 
 module _ (f : Form) (t own s : List ℕ) (b : Bool) (p : b ≡ reservedZero s) where
   pub from-reserved : (r : Answer) → not b ≡ true → r ≡ refused why.Settings → Leaves r t (initializesFrom f t own s)

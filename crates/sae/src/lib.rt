@@ -128,21 +128,42 @@ fn reply(a: Answer, answer: &mut [u8; 28]) -> u32
     answers::returned_of(o)
 }
 
+// Where the settings' fields lie in their 16 octets, and what is zero in them: one octet behind the count, and the last three.
+const COUNT_AT: usize = 0;
+
+const RESERVED_AT: usize = 1;
+
+const FIRST_GROUP_AT: usize = 2;
+
+const SECOND_GROUP_AT: usize = 4;
+
+const THIRD_GROUP_AT: usize = 6;
+
+const THRESHOLD_AT: usize = 8;
+
+const PERIOD_AT: usize = 10;
+
+const LIMIT_AT: usize = 12;
+
+const LAST_AT: usize = 13;
+
 // The settings that 16 octets say.
 fn settings_of(s: [u8; 16]) -> Settings
     ensures { λ r. ⌜ r ≡ settingsOf s ⌝ }
 {
-    let count = octets::get8(&s[..], 0);
-    let first = octets::get16(&s[..], 2);
-    let second = octets::get16(&s[..], 4);
-    let third = octets::get16(&s[..], 6);
-    let threshold = octets::get16(&s[..], 8);
+    let count = octets::get8(&s[..], COUNT_AT);
+    let first = octets::get16(&s[..], FIRST_GROUP_AT);
+    let second = octets::get16(&s[..], SECOND_GROUP_AT);
+    let third = octets::get16(&s[..], THIRD_GROUP_AT);
+    let threshold = octets::get16(&s[..], THRESHOLD_AT);
+    let period = octets::get16(&s[..], PERIOD_AT);
+    let limit = octets::get8(&s[..], LIMIT_AT);
     Settings {
         count: count,
         groups: [first, second, third],
         threshold: threshold,
-        period: 0,
-        limit: 0,
+        period: period,
+        limit: limit,
     }
 }
 
@@ -150,8 +171,8 @@ fn settings_of(s: [u8; 16]) -> Settings
 fn reserved_zero(s: [u8; 16]) -> bool
     ensures { λ r. ⌜ r ≡ reservedZero s ⌝ }
 {
-    let a = octets::zero_part(&s[..], 1, 1);
-    let b = octets::zero_part(&s[..], 10, 6);
+    let a = octets::zero_part(&s[..], RESERVED_AT, 1);
+    let b = octets::zero_part(&s[..], LAST_AT, 3);
     a & b
 }
 

@@ -1,7 +1,7 @@
 -- The form as facts, both ways, and what an unused part holds.
 use mathlib.Core.Path.{_≡_, refl, sym, ap, _∙_, subst}
 use mathlib.Core.Logic.{_⊎_, inl, inr}
-use mathlib.Core.Bool.{Bool, true, false, not, _||_}
+use mathlib.Core.Bool.{Bool, true, false, not, _&&_, _||_}
 use mathlib.Core.List.{List, [], _∷_}
 use Prim.Native.Nat.{ℕ, _+_, _^_, _≤_, _<_}
 use native.Mathlib.Omega.{arith}
@@ -11,11 +11,12 @@ use lib.ListN.{length, take, drop}
 use lib.Seq.{length-take-le}
 use borrow.Author.Tests.{eq-eqb, ne-eqb, eqb-true, le-leb, leb-true, lt-ltb, ltb-true, not-true}
 use Rattle.octets.specs.Octets.{allZero}
+use Rattle.octets.specs.Scan.{if_then_else_}
 use Rattle.octets.proofs.Scan.{clash, and-left, and-right, and-both}
 use Rattle.octets.proofs.Tests.{zero-zeros}
 use Rattle.groups.specs.Groups.{width, known, listable, listed, marked, indexOf}
 use Rattle.groups.proofs.Laws.{listable-known, listable-narrow, listable-wide}
-use Rattle.record.specs.Layout.{runSize, linkSize, recordSize, noRun, noLink, noPeer, formOf, formIn, widthIn, groupsOf, counted}
+use Rattle.record.specs.Layout.{runSize, linkSize, recordSize, noRun, noLink, noPeer, formOf, formIn, widthIn, groupsOf, counted, factoryPeriod, factoryLimit, periodOf, limitOf}
 use Rattle.record.specs.declared.Form.{Form}
 use Rattle.record.specs.declared.Run.{Run}
 use Rattle.record.specs.declared.Link.{Link}
@@ -25,7 +26,7 @@ use Rattle.record.specs.declared.Counts.{Counts}
 use Rattle.record.specs.declared.Settings.{Settings}
 use Rattle.record.specs.declared.Header.{Header}
 use Rattle.record.proofs.Laws.{ShapeRun, ShapeLink, ShapePeer, zero-run, zero-link, zero-peer, zeros-run, zeros-link, zeros-peer, FormOf, is-narrow, is-wide, is-none, form-of, Served, form-served, form-groups, form-slots}
-use Rattle.soundness.specs.Soundness.{ownOk, usable, allListable, eachOnce, groupsOk, settingsOk, geometryOk, headerOk, commitOk, tokenOk, rejectedOk, committedOk, confirmedOk, runOk, finishedOk, linkOk, freeOk, inUseOk, peerOk}
+use Rattle.soundness.specs.Soundness.{ownOk, usable, allListable, eachOnce, groupsOk, periodOk, limitOk, settingsOk, geometryOk, headerOk, commitOk, tokenOk, rejectedOk, committedOk, confirmedOk, runOk, finishedOk, linkOk, freeOk, inUseOk, peerOk}
 
 -- ---- unused parts
 
@@ -283,19 +284,44 @@ listed-listable W (x ∷ gs) g a l = go (eqb x g) refl l (λ m. listed-listable 
 pub record SettingsForm (f : Form) (s : Settings) : Type 0 where
   pub groups : groupsOk f (s .count) (s .groups) ≡ true
   pub threshold : s .threshold ≤ 64
-  pub period : s .period ≡ 0
-  pub limit : s .limit ≡ 0
+  pub period : periodOk (s .period) ≡ true
+  pub limit : limitOk (s .limit) ≡ true
 
 pub settings-form : (f : Form) (s : Settings) → settingsOk f s ≡ true → SettingsForm f s
 unfolding settingsOk
 settings-form f s ok =
     let k₁ = and-right (groupsOk f (s .count) (s .groups)) _ ok in
     let k₂ = and-right (leb (s .threshold) 64) _ k₁ in
-    record { groups = and-left _ _ ok; threshold = leb-true _ _ (and-left _ _ k₁); period = eqb-true _ _ (and-left _ _ k₂); limit = eqb-true _ _ (and-right (eqb (s .period) 0) _ k₂) }
+    record { groups = and-left _ _ ok; threshold = leb-true _ _ (and-left _ _ k₁); period = and-left _ _ k₂; limit = and-right (periodOk (s .period)) _ k₂ }
 
 pub form-settings : (f : Form) (s : Settings) → SettingsForm f s → settingsOk f s ≡ true
 unfolding settingsOk
-form-settings f s g = and-both _ _ (g .groups) (and-both _ _ (le-leb _ _ (g .threshold)) (and-both _ _ (eq-eqb _ _ (g .period)) (eq-eqb _ _ (g .limit))))
+form-settings f s g = and-both _ _ (g .groups) (and-both _ _ (le-leb _ _ (g .threshold)) (and-both _ _ (g .period) (g .limit)))
+
+-- the first period and the Sync limit that entries of this form stand for are in the papers' range
+pub period-range : (entry : ℕ) → periodOk entry ≡ true → (10 ≤ periodOf entry) × (periodOf entry ≤ 1000)
+unfolding periodOk periodOf
+period-range entry ok = go (eqb entry 0) ok
+  where
+    go : (b : Bool) → (b || (leb 10 entry && leb entry 1000)) ≡ true → (10 ≤ (if b then factoryPeriod else entry)) × ((if b then factoryPeriod else entry) ≤ 1000)
+    go true e = (lit≤ tt, lit≤ tt)
+    go false e = (leb-true _ _ (and-left _ _ e), leb-true _ _ (and-right (leb 10 entry) _ e))
+
+pub limit-range : (entry : ℕ) → limitOk entry ≡ true → (1 ≤ limitOf entry) × (limitOf entry ≤ 10)
+unfolding limitOk limitOf
+limit-range entry ok = go (eqb entry 0) ok
+  where
+    go : (b : Bool) → (b || (leb 1 entry && leb entry 10)) ≡ true → (1 ≤ (if b then factoryLimit else entry)) × ((if b then factoryLimit else entry) ≤ 10)
+    go true e = (lit≤ tt, lit≤ tt)
+    go false e = (leb-true _ _ (and-left _ _ e), leb-true _ _ (and-right (leb 1 entry) _ e))
+
+-- a Sync limit's entry is one comparison
+pub limit-one : (entry : ℕ) → leb entry 10 ≡ limitOk entry
+unfolding limitOk
+limit-one entry = elim (ℕ-discrete entry 0) [
+  | yes e ↦ rw e refl
+  | no d ↦ rw (ne-eqb entry 0 d, le-leb 1 entry (omega (arith, d))) refl
+]
 
 pub record GeometryForm (g : Geometry) : Type 0 where
   pub some : 1 ≤ g .slots

@@ -6,7 +6,7 @@ ghost use lib.ListN.{length, drop};
 ghost use Rattle.octets.specs.Octets.{part, allZero};
 ghost use Rattle.groups.specs.Groups.{width, listed};
 ghost use Rattle.record.specs.Layout.{runSize, linkSize, recordSize, formOf, decodeRun, decodeLink, decodePeer};
-ghost use Rattle.soundness.specs.Soundness.{ownOk, usable, groupsOk, settingsOk, geometryOk, headerOk, rejectedOk, tokenOk, committedOk, confirmedOk, runOk, finishedOk, linkOk, inUseOk, peerOk};
+ghost use Rattle.soundness.specs.Soundness.{ownOk, usable, groupsOk, periodOk, limitOk, settingsOk, geometryOk, headerOk, rejectedOk, tokenOk, committedOk, confirmedOk, runOk, finishedOk, linkOk, inUseOk, peerOk};
 use octets::Found;
 use record::ADDRESS;
 use record::FINISHED;
@@ -84,13 +84,29 @@ pub fn groups_ok(form: Form, n: u8, gs: [u16; 3]) -> bool
     false
 }
 
+// 0, or from the least period to the most.
+fn period_ok(entry: u16) -> bool
+    ensures { λ r. ⌜ r ≡ periodOk entry ⌝ }
+{
+    (entry == 0) | ((Settings::LEAST_PERIOD <= entry) & (entry <= Settings::MOST_PERIOD))
+}
+
+// 0, or from 1 to the most: one comparison.
+fn limit_ok(entry: u8) -> bool
+    ensures { λ r. ⌜ r ≡ limitOk entry ⌝ }
+{
+    entry <= Settings::MOST_SYNC_LIMIT
+}
+
 pub fn settings_ok(form: Form, s: Settings) -> bool
     requires { ⌜ form .groups ≤ 3 ⌝ }
     ensures { λ r. ⌜ r ≡ settingsOk form s ⌝ }
 {
     let gs = s.groups;
     let groups = groups_ok(form, s.count, gs);
-    groups & ((s.threshold <= 64) & ((s.period == 0) & (s.limit == 0)))
+    let period = period_ok(s.period);
+    let limit = limit_ok(s.limit);
+    groups & ((s.threshold <= 64) & (period & limit))
 }
 
 fn geometry_ok(form: Form, g: Geometry) -> bool

@@ -7,7 +7,7 @@ use Prim.Native.Nat.{ℕ, zero, suc, _+_, _-_, _*_, _^_, _≤_, _<_}
 use native.Mathlib.Omega.{arith}
 use native.Mathlib.Nat.{mul-le-mul}
 use native.Mathlib.Decide.{ℕ-discrete, decLt}
-use lib.Dec.{eqb, leb, lit<}
+use lib.Dec.{eqb, leb}
 use lib.ListN.{length}
 use lib.Seq.{getD-set-same, getD-set-other}
 use borrow.Author.Tests.{eqb-true, leb-true, eq-eqb, le-leb, lt-leb, ne-eqb, not-true, not-false}
@@ -22,8 +22,8 @@ use Rattle.record.specs.declared.Header.{Header}
 use Rattle.groups.specs.Groups.{width}
 use Rattle.record.specs.Layout.{widthIn, recordSize, recordAt, groupsOf, limitOf}
 use Rattle.record.proofs.Laws.{record-below}
-use Rattle.soundness.specs.Soundness.{usable, headerOk, highSync, peerOk}
-use Rattle.soundness.proofs.Laws.{header-form, settings-form, header-groups, header-count, header-slots}
+use Rattle.soundness.specs.Soundness.{usable, limitOk, headerOk, highSync, peerOk}
+use Rattle.soundness.proofs.Laws.{header-form, settings-form, limit-range, header-groups, header-count, header-slots}
 use Rattle.table.specs.Table.{Table, widthOf, decodeTable, slot, slots, inUse, isOpen, belongs, alone, slotsOk, addressesOk, countsOk, sound, usedCount, openCount, countsOf, finds, freeSlot, entry, foundEntry, withPeer, standingOf, Changed, Ready, Whole, Reaches, Reached, Sized, Looked, Enters}
 use Rattle.table.specs.declared.Entrance.{Entrance}
 use Rattle.table.specs.declared.Standing.{Standing}
@@ -41,10 +41,9 @@ counts-true T ok =
     let z : T .header .counts .spare ≡ 0 = eqb-true _ _ (and-right (eqb (T .header .counts .opened) (openCount T)) _ k₁) in
     λ i. record { used = u i; opened = o i; spare = z i }
 
--- an entry of 0 stands for the factory's limit, and the highest Sync is in its octet's range
-factory-low : {entry : ℕ} → entry ≡ 0 → limitOf entry + 1 < 256
-unfolding limitOf
-factory-low e = rw e (lit< tt)
+-- the highest Sync is in its octet's range
+high-low : (entry : ℕ) → limitOk entry ≡ true → limitOf entry + 1 < 256
+high-low entry ok = omega (arith, limit-range entry ok .1)
 
 -- what soundness says
 module _ (t : List ℕ) (s : sound t ≡ true) where
@@ -154,7 +153,7 @@ module _ (t : List ℕ) (h : Header) (e : h ≡ decodeTable t .header) where
         few = header-slots h y;
         some = g .some;
         most = header-count h y;
-        low = factory-low (s .limit);
+        low = high-low _ (s .limit);
       }
 
   pub body-by : (ok r : Bool) (w n : ℕ) → 32 ≤ length t → ok ≡ headerOk h → not ok ≡ false → w ≡ widthIn h → n ≡ recordAt w (h .geometry .slots) → length t ≡ n

@@ -23,7 +23,7 @@ use Rattle.agreement.proofs.Demand.{demand3}
 use Rattle.witness.specs.Printers.{own, commit, filled, value, setUp}
 use Rattle.witness.specs.Fallback.{newer, older, newerStock, olderStock, offer, refusal, switch, answer, confirm, ready, offered, refused, switched, answered, confirmed, accepted, fallback}
 use Rattle.witness.proofs.Lists.{At, at-none, by-A, by-B, outcome-of, sends-by, sent, sent-over, no-use, one-use, Below, nobody, skips, uses, set-up-keeps, start-keeps, commit-sequence, refusal-sequence, commit-keeps, confirm-keeps, Every, end, and, premises-of, no-octet, octet, bytes-of, filled-bytes, commit-bytes, refusal-bytes, confirm-bytes, set-up-handed, start-handed, frame-handed}
-use Rattle.witness.proofs.Plays.{committed, linked, empty, running, resting, says, pair, after-offer, after-refusal, after-switch, after-answer, after-confirm, after-newer-accepts, after-older-accepts, story-offer, story-switch, story-answer, story-confirm, story-newer-accepts, story-older-accepts, plays, tells}
+use Rattle.witness.proofs.Plays.{committed, linked, one, empty, running, resting, says, pair, after-offer, after-refusal, after-switch, after-answer, after-confirm, after-newer-accepts, after-older-accepts, story-offer, story-switch, story-answer, story-confirm, story-newer-accepts, story-older-accepts, plays, tells}
 
 -- ---- where the list stands after each call
 
@@ -110,8 +110,8 @@ fallback-refused = (
   at-4 .table-B ∙ sym (at-3 .table-B),
 )
 
--- A has marked its first group, 21, as rejected, and its run is in the next one, 19, with that group's part of the stock
-pub fallback-switched : tableOf switched A ≡ running newer (committed 19 1 5) noLink
+-- A has marked its first group, 21, as rejected, and its run is in the next one, 19, with that group's part of the stock; t0 is its own first period ahead
+pub fallback-switched : tableOf switched A ≡ running newer (committed 250 19 1 5) noLink
 fallback-switched = at-5 .table-A
 
 -- THE FALLBACK keeps to the premises, and ends with two clear links in group 19 that agree
@@ -127,6 +127,10 @@ fallback-tables = (at-9 .table-A, at-9 .table-B)
 
 pub fallback-widths : (widthOf (tableOf fallback A) ≡ 198) × (widthOf (tableOf fallback B) ≡ 144)
 fallback-widths = (ap widthOf (at-9 .table-A) ∙ tells .newer-width, ap widthOf (at-9 .table-B) ∙ tells .older-width)
+
+-- each run has the limit of its own printer's table: A's 10, and the factory's 5 at B
+pub fallback-runs : (storyOf fallback A (own B) .runs ≡ one 10) × (storyOf fallback B (own A) .runs ≡ one 5)
+fallback-runs = (ap (λ (s : Story). s .runs) (at-9 .story-A), ap (λ (s : Story). s .runs) (at-9 .story-B))
 
 -- ---- all that is handed over can be
 
@@ -145,8 +149,8 @@ fallback-handed =
     (calls-of.more (frame-handed A _ _ 0 (refusal-bytes 21) (newer-bytes 4 5 (lit< tt) (lit< tt)) (lit< tt))
     (calls-of.more (frame-handed B _ _ 0 (commit-bytes 21 1 (lit< tt)) (older-bytes 3 (lit< tt)) (lit< tt))
     (calls-of.more (start-handed A _ (newer-bytes 1 2 (lit< tt) (lit< tt)))
-    (calls-of.more (set-up-handed older (lit< tt) (bytes-of (octet (lit< tt) no-octet)))
-    (calls-of.more (set-up-handed newer (lit< tt) (bytes-of (octet (lit< tt) (octet (lit< tt) no-octet)))) calls-of.none))))))))
+    (calls-of.more (set-up-handed older (lit< tt) (bytes-of (octet (lit< tt) no-octet)) (lit< tt) (lit< tt))
+    (calls-of.more (set-up-handed newer (lit< tt) (bytes-of (octet (lit< tt) (octet (lit< tt) no-octet))) (lit< tt) (lit< tt)) calls-of.none))))))))
 
 -- demand 3 holds of it, premises and all
 pub fallback-demand3 : Demand3 own fallback

@@ -141,7 +141,7 @@ stock-bytes : (n : ℕ) → n < 256 → Bytes (stock n)
 stock-bytes n l = filled-bytes 198 21 n l
 
 wide-handed : (X : Side) → Handed (setUp (wide X))
-wide-handed X = set-up-handed (wide X) (lit< tt) (bytes-of (octet (lit< tt) no-octet))
+wide-handed X = set-up-handed (wide X) (lit< tt) (bytes-of (octet (lit< tt) no-octet)) (lit< tt) (lit< tt)
 
 commit-handed : (X : Side) (m n v : ℕ) → m < 256 → n < 256 → v < 256 → Handed (getsCommit X m n v)
 commit-handed X m n v i j k = frame-handed X _ _ v (commit-bytes 21 m i) (stock-bytes n j) k

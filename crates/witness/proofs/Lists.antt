@@ -260,12 +260,12 @@ own-six B = record { many = refl; bytes = bytes-of (octet (lit< tt) (octet (lit<
 value-handed : (n : ℕ) → n < 256 → calls-of.Octets 32 (value n)
 value-handed n l = record { many = refl; bytes = bytes-same 32 n l }
 
-settings-handed : (P : Printer) → length (P .groups) < 256 → Bytes (P .groups) → calls-of.Octets 16 (settings P)
-settings-handed P l b =
+settings-handed : (P : Printer) → length (P .groups) < 256 → Bytes (P .groups) → P .period < 256 → P .limit < 256 → calls-of.Octets 16 (settings P)
+settings-handed P l b p m =
     let z : 0 < 256 = lit< tt in
     record {
       many = refl;
-      bytes = bytes-of (octet l (octet z (octet (b 0) (octet z (octet (b 1) (octet z (octet (b 2) (octet z (octet (lit< tt) (small-same 7 0 z))))))))));
+      bytes = bytes-of (octet l (octet z (octet (b 0) (octet z (octet (b 1) (octet z (octet (b 2) (octet z (octet (lit< tt) (octet z (octet p (octet z (octet m (small-same 3 0 z))))))))))))));
     }
 
 pub filled-bytes : (W group n : ℕ) → n < 256 → Bytes (filled W group n)
@@ -291,9 +291,9 @@ pub confirm-bytes : (counter n : ℕ) → n < 256 → Bytes (confirmBody counter
 unfolding confirmBody
 confirm-bytes counter n l = body-bytes 2 0 counter (value n) (bytes-same 32 n l)
 
-pub set-up-handed : (P : Printer) → length (P .groups) < 256 → Bytes (P .groups) → Handed (setUp P)
-set-up-handed P l b = record {
-  call = an-initialize (bytes-same (32 + P .size) 0 (lit< tt)) (own-six (P .side)) (settings-handed P l b);
+pub set-up-handed : (P : Printer) → length (P .groups) < 256 → Bytes (P .groups) → P .period < 256 → P .limit < 256 → Handed (setUp P)
+set-up-handed P l b p m = record {
+  call = an-initialize (bytes-same (32 + P .size) 0 (lit< tt)) (own-six (P .side)) (settings-handed P l b p m);
   value = value-handed 0 (lit< tt);
 }
 

@@ -48,10 +48,10 @@ use Rattle.witness.specs.Handshake.{wide, start, getsCommit, getsConfirm
 use Rattle.witness.specs.Fallback.{newer, older, offer, refusal, switch, answer, confirm, newerAccepts, olderAccepts}
 use Rattle.witness.proofs.Lists.{tellBy, firstOctet}
 
--- ---- runs, links and tables: n is the octet of the own commit, m that of the peer's
+-- ---- runs, links and tables: t0 is the run's deadline, n the octet of the own commit, m that of the peer's
 
-abbrev pub committed : ℕ → ℕ → ℕ → Run
-committed group rejected n =
+abbrev pub committed : ℕ → ℕ → ℕ → ℕ → Run
+committed t0 group rejected n =
     record {
       state = 1;
       sync = 0;
@@ -59,14 +59,14 @@ committed group rejected n =
       sc = 0;
       group = group;
       toklen = 0;
-      t0 = 40;
+      t0 = t0;
       own = filled width group n;
       peer = replicate width 0;
       token = replicate 256 0;
     }
 
-abbrev pub confirmed : ℕ → ℕ → ℕ → Run
-confirmed group n m =
+abbrev pub confirmed : ℕ → ℕ → ℕ → ℕ → Run
+confirmed t0 group n m =
     record {
       state = 2;
       sync = 0;
@@ -74,7 +74,7 @@ confirmed group n m =
       sc = 1;
       group = group;
       toklen = 0;
-      t0 = 40;
+      t0 = t0;
       own = filled width group n;
       peer = filled width group m;
       token = replicate 256 0;
@@ -98,8 +98,8 @@ table P used opened p =
               count = length (P .groups);
               groups = getD (P .groups) 0 0 ∷ getD (P .groups) 1 0 ∷ getD (P .groups) 2 0 ∷ [];
               threshold = 5;
-              period = 0;
-              limit = 0;
+              period = P .period;
+              limit = P .limit;
             };
       };
       peers = p ∷ [];
@@ -125,13 +125,13 @@ says X e fs g t = record { answer = record { outcome = outcome.Done; event = e; 
 
 -- of the handshake
 abbrev pub after-start-A : Left
-after-start-A = says A event.None (frames.One (commitFrame 21)) 21 (running (wide A) (committed 21 0 1) noLink)
+after-start-A = says A event.None (frames.One (commitFrame 21)) 21 (running (wide A) (committed 40 21 0 1) noLink)
 
 abbrev pub after-commit-B : Left
-after-commit-B = says B event.None (frames.Two (commitFrame 21) (confirmFrame 1)) 21 (running (wide B) (confirmed 21 2 1) noLink)
+after-commit-B = says B event.None (frames.Two (commitFrame 21) (confirmFrame 1)) 21 (running (wide B) (confirmed 40 21 2 1) noLink)
 
 abbrev pub after-commit-A : Left
-after-commit-A = says A event.None (frames.One (confirmFrame 1)) 0 (running (wide A) (confirmed 21 1 2) noLink)
+after-commit-A = says A event.None (frames.One (confirmFrame 1)) 0 (running (wide A) (confirmed 40 21 1 2) noLink)
 
 abbrev pub after-accept-A : Left
 after-accept-A = says A event.Accepted frames.None 0 (resting (wide A) (linked 21 1 2 0))
@@ -140,32 +140,32 @@ abbrev pub after-accept-B : Left
 after-accept-B = says B event.Accepted frames.None 0 (resting (wide B) (linked 21 2 1 0))
 
 abbrev pub after-start-again : Left
-after-start-again = says A event.None (frames.One (commitFrame 21)) 21 (running (wide A) (committed 21 0 6) (linked 21 1 2 0))
+after-start-again = says A event.None (frames.One (commitFrame 21)) 21 (running (wide A) (committed 40 21 0 6) (linked 21 1 2 0))
 
 abbrev pub after-commit-again-B : Left
-after-commit-again-B = says B event.None (frames.Two (commitFrame 21) (confirmFrame 1)) 21 (running (wide B) (confirmed 21 7 6) (linked 21 2 1 1))
+after-commit-again-B = says B event.None (frames.Two (commitFrame 21) (confirmFrame 1)) 21 (running (wide B) (confirmed 40 21 7 6) (linked 21 2 1 1))
 
 abbrev pub after-commit-again-A : Left
-after-commit-again-A = says A event.None (frames.One (confirmFrame 1)) 0 (running (wide A) (confirmed 21 6 7) (linked 21 1 2 1))
+after-commit-again-A = says A event.None (frames.One (confirmFrame 1)) 0 (running (wide A) (confirmed 40 21 6 7) (linked 21 1 2 1))
 
 abbrev pub after-accept-again-A : Left
 after-accept-again-A = says A event.Accepted frames.None 0 (resting (wide A) (linked 21 6 7 0))
 
 -- of the fallback: B keeps no record of what it refuses, and A marks its first group as rejected
 abbrev pub after-offer : Left
-after-offer = says A event.None (frames.One (commitFrame 21)) 21 (running newer (committed 21 0 1) noLink)
+after-offer = says A event.None (frames.One (commitFrame 21)) 21 (running newer (committed 250 21 0 1) noLink)
 
 abbrev pub after-refusal : Left
 after-refusal = says B event.None (frames.One (groupRefusalFrame 21)) 0 (empty older)
 
 abbrev pub after-switch : Left
-after-switch = says A event.None (frames.One (commitFrame 19)) 19 (running newer (committed 19 1 5) noLink)
+after-switch = says A event.None (frames.One (commitFrame 19)) 19 (running newer (committed 250 19 1 5) noLink)
 
 abbrev pub after-answer : Left
-after-answer = says B event.None (frames.Two (commitFrame 19) (confirmFrame 1)) 19 (running older (confirmed 19 6 5) noLink)
+after-answer = says B event.None (frames.Two (commitFrame 19) (confirmFrame 1)) 19 (running older (confirmed 40 19 6 5) noLink)
 
 abbrev pub after-confirm : Left
-after-confirm = says A event.None (frames.One (confirmFrame 1)) 0 (running newer (confirmed 19 5 6) noLink)
+after-confirm = says A event.None (frames.One (confirmFrame 1)) 0 (running newer (confirmed 250 19 5 6) noLink)
 
 abbrev pub after-newer-accepts : Left
 after-newer-accepts = says A event.Accepted frames.None 0 (resting newer (linked 19 5 6 0))
@@ -184,62 +184,62 @@ pair group n m = record { group = group; own = filled width group n; peer = fill
 abbrev story : Commit → Pair → Bool → Bool → stories.Link → List Tally → Story
 story f p running stands l ks = record { fresh = f; pair = p; running = running; stands = stands; link = l; runs = ks }
 
--- a run without a repeat, and two of them
-abbrev none : Tally
-none = record { before = 0; after = 0; limit = 5 }
+-- a run without a repeat, in a table of a Sync limit, and two of them
+abbrev none : ℕ → Tally
+none limit = record { before = 0; after = 0; limit = limit }
 
-abbrev one : List Tally
-one = none ∷ []
+abbrev pub one : ℕ → List Tally
+one limit = none limit ∷ []
 
-abbrev two : List Tally
-two = none ∷ none ∷ []
+abbrev two : ℕ → List Tally
+two limit = none limit ∷ none limit ∷ []
 
 -- of the handshake
 abbrev pub story-start-A : Story
-story-start-A = story (used 21 1) (nothingYet .pair) true false unlinked one
+story-start-A = story (used 21 1) (nothingYet .pair) true false unlinked (one 5)
 
 abbrev pub story-commit-B : Story
-story-commit-B = story (used 21 2) (pair 21 2 1) true true unlinked one
+story-commit-B = story (used 21 2) (pair 21 2 1) true true unlinked (one 5)
 
 abbrev pub story-commit-A : Story
-story-commit-A = story (used 21 1) (pair 21 1 2) true true unlinked one
+story-commit-A = story (used 21 1) (pair 21 1 2) true true unlinked (one 5)
 
 abbrev pub story-accept-A : Story
-story-accept-A = story (used 21 1) (pair 21 1 2) false false (finished (pair 21 1 2) false) one
+story-accept-A = story (used 21 1) (pair 21 1 2) false false (finished (pair 21 1 2) false) (one 5)
 
 abbrev pub story-accept-B : Story
-story-accept-B = story (used 21 2) (pair 21 2 1) false false (finished (pair 21 2 1) false) one
+story-accept-B = story (used 21 2) (pair 21 2 1) false false (finished (pair 21 2 1) false) (one 5)
 
 abbrev pub story-start-again : Story
-story-start-again = story (used 21 6) (pair 21 1 2) true false (finished (pair 21 1 2) false) two
+story-start-again = story (used 21 6) (pair 21 1 2) true false (finished (pair 21 1 2) false) (two 5)
 
 abbrev pub story-commit-again-B : Story
-story-commit-again-B = story (used 21 7) (pair 21 7 6) true true (finished (pair 21 2 1) true) two
+story-commit-again-B = story (used 21 7) (pair 21 7 6) true true (finished (pair 21 2 1) true) (two 5)
 
 abbrev pub story-commit-again-A : Story
-story-commit-again-A = story (used 21 6) (pair 21 6 7) true true (finished (pair 21 1 2) true) two
+story-commit-again-A = story (used 21 6) (pair 21 6 7) true true (finished (pair 21 1 2) true) (two 5)
 
 abbrev pub story-accept-again-A : Story
-story-accept-again-A = story (used 21 6) (pair 21 6 7) false false (finished (pair 21 6 7) false) two
+story-accept-again-A = story (used 21 6) (pair 21 6 7) false false (finished (pair 21 6 7) false) (two 5)
 
 -- of the fallback: to B's story a refusal adds nothing
 abbrev pub story-offer : Story
-story-offer = story (used 21 1) (nothingYet .pair) true false unlinked one
+story-offer = story (used 21 1) (nothingYet .pair) true false unlinked (one 10)
 
 abbrev pub story-switch : Story
-story-switch = story (used 19 5) (nothingYet .pair) true false unlinked one
+story-switch = story (used 19 5) (nothingYet .pair) true false unlinked (one 10)
 
 abbrev pub story-answer : Story
-story-answer = story (used 19 6) (pair 19 6 5) true true unlinked one
+story-answer = story (used 19 6) (pair 19 6 5) true true unlinked (one 5)
 
 abbrev pub story-confirm : Story
-story-confirm = story (used 19 5) (pair 19 5 6) true true unlinked one
+story-confirm = story (used 19 5) (pair 19 5 6) true true unlinked (one 10)
 
 abbrev pub story-newer-accepts : Story
-story-newer-accepts = story (used 19 5) (pair 19 5 6) false false (finished (pair 19 5 6) false) one
+story-newer-accepts = story (used 19 5) (pair 19 5 6) false false (finished (pair 19 5 6) false) (one 10)
 
 abbrev pub story-older-accepts : Story
-story-older-accepts = story (used 19 6) (pair 19 6 5) false false (finished (pair 19 6 5) false) one
+story-older-accepts = story (used 19 6) (pair 19 6 5) false false (finished (pair 19 6 5) false) (one 5)
 
 -- ---- every call of the lists, computed
 
@@ -325,7 +325,7 @@ unfolding octets.part octets.put octets.num octets.oct octets.allZero octets.sam
     layout.linkOf layout.encodeLink layout.decodeLink layout.peerWidths layout.peerFields layout.peerOf layout.encodePeer layout.decodePeer
     layout.recordAt layout.formOf layout.headerWidths layout.frontFields layout.backFields layout.headerFields layout.headerFront layout.headerBack
     layout.headerOf layout.encodeHeader layout.decodeHeader layout.noRun layout.noLink layout.noPeer layout.periodOf layout.limitOf
-    settings-octets.settingsOf settings-octets.reservedZero soundness.ownOk soundness.usable soundness.eachOnce soundness.groupsOk
+    settings-octets.settingsOf settings-octets.reservedZero soundness.ownOk soundness.usable soundness.eachOnce soundness.groupsOk soundness.periodOk soundness.limitOk
     soundness.settingsOk soundness.geometryOk soundness.headerOk soundness.commitOk soundness.tokenOk soundness.rejectedOk soundness.committedOk
     soundness.confirmedOk soundness.runOk soundness.finishedOk soundness.linkOk soundness.freeOk soundness.inUseOk soundness.peerOk
     soundness.allListable tables.peersOf tables.octetsOf tables.decodeTable tables.encodeTable tables.slot tables.belongs tables.usedCount

@@ -1,5 +1,6 @@
--- A list of calls, by octets, of printers of unlike forms, one of them without group 21. A's table is of the form of 1,080 octets and lists 21, then 19;
--- B's is of the form of 864, made before, and lists 19 alone. They come to two links in group 19.
+-- A list of calls, by octets, of printers of unlike forms that are set differently, one of them without group 21. A's table is of the form of 1,080 octets,
+-- lists 21, then 19, and is set for a long hall: first period 250, Sync limit 10. B's is of the form of 864, made before, and lists 19 alone; its entries of 0
+-- stand for the factory's 40 and 5. They come to two links in group 19.
 use mathlib.Core.List.{List, [], _∷_, _++_}
 use Prim.Native.Nat.{ℕ}
 use Rattle.protocol.specs.Model.{A, B}
@@ -8,10 +9,10 @@ use Rattle.agreement.specs.Calls.{Entry}
 use Rattle.witness.specs.Printers.{Printer, commit, filled, value, setUp, starts, gets}
 
 abbrev pub newer : Printer
-newer = record { side = A; size = 1080; groups = 21 ∷ 19 ∷ [] }
+newer = record { side = A; size = 1080; groups = 21 ∷ 19 ∷ []; period = 250; limit = 10 }
 
 abbrev pub older : Printer
-older = record { side = B; size = 864; groups = 19 ∷ [] }
+older = record { side = B; size = 864; groups = 19 ∷ []; period = 0; limit = 0 }
 
 -- A's stock, a part for each of its groups in list order, and B's
 abbrev pub newerStock : ℕ → ℕ → List ℕ

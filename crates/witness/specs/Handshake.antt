@@ -1,5 +1,5 @@
 -- Two lists of calls, by octets: a handshake from two set ups to two links, and one more that only one end has finished.
--- Both tables are of the form of 1,080 octets, as set up makes them, and list group 21 alone.
+-- Both tables are of the form of 1,080 octets, as set up makes them, list group 21 alone, and have the factory's first period and Sync limit.
 use mathlib.Core.List.{List, [], _∷_}
 use Prim.Native.Nat.{ℕ}
 use Rattle.protocol.specs.Model.{Side, A, B}
@@ -8,7 +8,7 @@ use Rattle.agreement.specs.Calls.{Entry}
 use Rattle.witness.specs.Printers.{Printer, commit, filled, value, setUp, starts, gets}
 
 abbrev pub wide : Side → Printer
-wide X = record { side = X; size = 1080; groups = 21 ∷ [] }
+wide X = record { side = X; size = 1080; groups = 21 ∷ []; period = 40; limit = 5 }
 
 abbrev pub stock : ℕ → List ℕ
 stock n = filled 198 21 n

@@ -11,16 +11,19 @@ abbrev pub own : Side → List ℕ
 own A = 2 ∷ 0 ∷ 0 ∷ 0 ∷ 0 ∷ 1 ∷ []
 own B = 2 ∷ 0 ∷ 0 ∷ 0 ∷ 0 ∷ 2 ∷ []
 
--- a printer: the record size of its table's form, and the groups that it lists
+-- a printer: the record size of its table's form, the groups that it lists, and the entries of its first period, here below 256, and Sync limit
 pub record Printer : Type 0 where
   pub side : Side
   pub size : ℕ
   pub groups : List ℕ
+  pub period : ℕ
+  pub limit : ℕ
 
 -- its settings, with threshold 5
 abbrev pub settings : Printer → List ℕ
 settings P =
-    length (P .groups) ∷ 0 ∷ getD (P .groups) 0 0 ∷ 0 ∷ getD (P .groups) 1 0 ∷ 0 ∷ getD (P .groups) 2 0 ∷ 0 ∷ 5 ∷ replicate 7 0
+    length (P .groups) ∷ 0 ∷ getD (P .groups) 0 0 ∷ 0 ∷ getD (P .groups) 1 0 ∷ 0 ∷ getD (P .groups) 2 0 ∷ 0 ∷ 5 ∷ 0
+    ∷ P .period ∷ 0 ∷ P .limit ∷ replicate 3 0
 
 -- a group's commit as a frame has it, and filled with zeros up to W octets, as a stock of that width has it; a Confirm's value
 abbrev pub commit : ℕ → ℕ → List ℕ

@@ -34,11 +34,26 @@ slice-aggregate-get16-4 c = search needs
 get16-requires-4 : tie.Need-get16-requires-4
 get16-requires-4 c κs = search needs
 
+slice-aggregate-get16-5 : tie.Need-slice-aggregate-get16-5
+slice-aggregate-get16-5 c = search needs
+
+get16-requires-5 : tie.Need-get16-requires-5
+get16-requires-5 c κs = search needs
+
+slice-aggregate-get8-2 : tie.Need-slice-aggregate-get8-2
+slice-aggregate-get8-2 c = search needs
+
+get8-requires-2 : tie.Need-get8-requires-2
+get8-requires-2 c κs = search needs
+
 returns : tie.Need-returns
 returns c =
     let d = c .before .before in
     let e = d .before .before in
-    settings-are _ _ _ _ _ _ (e .before .before .before .before .get8 .ensures) (e .before .before .get16 .ensures) (e .get162 .ensures) (d .get163 .ensures) (c .get164 .ensures)
+    let f = e .before .before in
+    let g = f .before .before in
+    settings-are _ _ _ _ _ _ _ _ (g .before .before .before .before .get8 .ensures) (g .before .before .get16 .ensures) (g .get162 .ensures) (f .get163 .ensures) (e .get164 .ensures)
+    (d .get165 .ensures) (c .get82 .ensures)
 
 pub settings-of-spec : {M : Type 1} → statement M
 settings-of-spec =
@@ -54,4 +69,8 @@ settings-of-spec =
     get16-requires-3
     slice-aggregate-get16-4
     get16-requires-4
+    slice-aggregate-get16-5
+    get16-requires-5
+    slice-aggregate-get8-2
+    get8-requires-2
     returns)
