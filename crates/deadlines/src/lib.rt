@@ -22,7 +22,7 @@ pub fn is_due(time: u32, at: u32) -> bool
     gone < HALF
 }
 
-// "40 × 2^Sync is worked out": the first period, doubled Sync times.
+// "40 × 2^Sync is worked out": the clock's first period, doubled Sync times.
 fn delay_of(clock: Clock, sync: u8) -> u32
     requires { ⌜ Paced clock × (sync ≤ clock .limit + 1) ⌝ }
     ensures { λ r. ⌜ r ≡ delay clock sync ⌝ }

@@ -143,7 +143,7 @@ outranks t c = holds (higher (t .own) (c .address))
 abbrev pub noSlot : Terms → Bool
 noSlot t = holds (t .full)
 
--- "Sync above 5", of the run and of the link
+-- "Sync above 5", of the run and of the link: above the Sync limit of the table, the factory's or what it is set to (request i)
 abbrev pub spent : Call → Peer → Bool
 spent c p = p .run .sync above c .clock .limit
 
@@ -290,11 +290,11 @@ confirmFrame counter = record { sequence = 2; status = 0; group = 0; counter = c
 
 -- ---- the scope's own words: "Set t0", "Repeat", "Give up", "Drop", "Form"
 
--- "40 × 2^Sync is worked out": the first period, doubled Sync times (request d)
+-- "40 × 2^Sync is worked out" (request d): the first period of the table, 40 or what it is set to (request i), doubled Sync times
 unfoldable pub delay : Clock → ℕ → ℕ
 delay κ sync = κ .period * 2 ^ sync
 
--- "Set t0": deadline = now + 40 × 2^Sync, modulo 2^32.
+-- "Set t0": deadline = now + 40 × 2^Sync, modulo 2^32, the 40 as above.
 unfoldable pub setT0 : Clock → Run → Run
 setT0 κ r = withT0 r (deadline (κ .time) (delay κ (r .sync)))
 
@@ -322,7 +322,7 @@ abandoning p = record { peer = settled (withRun p noRun); event = event.Abandone
 unfoldable pub endingLink : Peer → Step
 endingLink p = record { peer = settled (withLink p noLink); event = event.Ended; frames = None; afresh = 0; refused = false }
 
--- "Repeat": if Sync is above 5, give up; else Sync + 1, send, set t0. The run that goes on is r: the record's, with the Sc or the token that it then has.
+-- "Repeat": if Sync is above 5 (the table's limit), give up; else Sync + 1, send, set t0. The run that goes on is r: the record's, with the Sc or the token that it then has.
 unfoldable pub retransmitting : Clock → Peer → Run → Frames → Step
 retransmitting κ p r fs =
     if p .run .sync above κ .limit then abandoning p

@@ -5,11 +5,12 @@ use mathlib.Core.Bool.{false}
 use mathlib.Core.List.{[], _∷_}
 use Prim.Native.Nat.{ℕ, _<_}
 use lib.Dec.{lit<}
-use Rattle.protocol.specs.Model.{A, B}
-use Rattle.octets.specs.Octets.{Bytes}
+use Rattle.protocol.specs.Model.{Side, A, B}
+use Rattle.octets.specs.Octets.{Bytes, part, num}
 use Rattle.octets.proofs.Laws.{bytes-append}
 use Rattle.frame.specs.Frame.{commitBody, groupRefusalBody, confirmBody}
-use Rattle.record.specs.Layout.{noLink}
+use Rattle.record.specs.Layout.{noLink, limitOf}
+use Rattle.record.specs.SettingsOctets.{settingsOf}
 use Rattle.table.specs.Table.{widthOf}
 use Rattle.rules.specs.declared.Event.the-variants as event
 use Rattle.rules.specs.declared.Frames.the-variants as frames
@@ -18,11 +19,11 @@ use Rattle.agreement.specs.Calls.{AllHanded, left, tableOf, last, sooner}
 use Rattle.agreement.specs.Calls as calls-of
 use Rattle.agreement.specs.Story.{finished, Story, nothingYet, storyOf}
 use Rattle.agreement.specs.Sent.{only, first, second, SendsBy}
-use Rattle.agreement.specs.Statement.{Premises, Demand3}
+use Rattle.agreement.specs.Statement.{Premises, SetTo, Demand3}
 use Rattle.agreement.proofs.Demand.{demand3}
 use Rattle.witness.specs.Printers.{own, commit, filled, value, setUp}
 use Rattle.witness.specs.Fallback.{newer, older, newerStock, olderStock, offer, refusal, switch, answer, confirm, ready, offered, refused, switched, answered, confirmed, accepted, fallback}
-use Rattle.witness.proofs.Lists.{At, at-none, by-A, by-B, outcome-of, sends-by, sent, sent-over, no-use, one-use, Below, nobody, skips, uses, set-up-keeps, start-keeps, commit-sequence, refusal-sequence, commit-keeps, confirm-keeps, Every, end, and, premises-of, no-octet, octet, bytes-of, filled-bytes, commit-bytes, refusal-bytes, confirm-bytes, set-up-handed, start-handed, frame-handed}
+use Rattle.witness.proofs.Lists.{Sets, nothing, sets, begins, hears, sets-to, At, at-none, by-A, by-B, outcome-of, sends-by, sent, sent-over, no-use, one-use, Below, nobody, skips, uses, set-up-keeps, start-keeps, commit-sequence, refusal-sequence, commit-keeps, confirm-keeps, Every, end, and, premises-of, no-octet, octet, bytes-of, filled-bytes, commit-bytes, refusal-bytes, confirm-bytes, set-up-handed, start-handed, frame-handed}
 use Rattle.witness.proofs.Plays.{committed, linked, one, empty, running, resting, says, pair, after-offer, after-refusal, after-switch, after-answer, after-confirm, after-newer-accepts, after-older-accepts, story-offer, story-switch, story-answer, story-confirm, story-newer-accepts, story-older-accepts, plays, tells}
 
 -- ---- where the list stands after each call
@@ -128,8 +129,20 @@ fallback-tables = (at-9 .table-A, at-9 .table-B)
 pub fallback-widths : (widthOf (tableOf fallback A) ≡ 198) × (widthOf (tableOf fallback B) ≡ 144)
 fallback-widths = (ap widthOf (at-9 .table-A) ∙ tells .newer-width, ap widthOf (at-9 .table-B) ∙ tells .older-width)
 
--- each run has the limit of its own printer's table: A's 10, and the factory's 5 at B
-pub fallback-runs : (storyOf fallback A (own B) .runs ≡ one 10) × (storyOf fallback B (own A) .runs ≡ one 5)
+-- the printers are set differently: A's limit is 10, and B's entry of 0 stands for the factory's 5
+abbrev pub limits : Side → ℕ
+limits A = 10
+limits B = 5
+
+all-set : Sets limits fallback
+unfolding settingsOf limitOf part num
+all-set = hears (hears (hears (hears (hears (hears (begins (sets older refl (sets newer refl nothing))))))))
+
+pub fallback-set : (X : Side) → SetTo (limits X) X fallback
+fallback-set = sets-to all-set
+
+-- and each run has the limit of its own printer's table
+pub fallback-runs : (storyOf fallback A (own B) .runs ≡ one (limits A)) × (storyOf fallback B (own A) .runs ≡ one (limits B))
 fallback-runs = (ap (λ (s : Story). s .runs) (at-9 .story-A), ap (λ (s : Story). s .runs) (at-9 .story-B))
 
 -- ---- all that is handed over can be

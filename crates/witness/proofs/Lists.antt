@@ -18,6 +18,8 @@ use Rattle.frame.specs.Writing.{Octets}
 use Rattle.frame.specs.declared.Body.the-variants as body-is
 use Rattle.frame.proofs.Shapes.{confirm-shape}
 use Rattle.frame.proofs.RoundTrip.{body-sequence}
+use Rattle.record.specs.Layout.{limitOf}
+use Rattle.record.specs.SettingsOctets.{settingsOf}
 use Rattle.rules.specs.declared.Frame.{Frame}
 use Rattle.rules.specs.Book.{confirmFrame}
 use Rattle.answers.specs.Answers.{Left}
@@ -25,7 +27,7 @@ use Rattle.agreement.specs.Calls.{an-initialize, an-initiate, a-receive, Handed
 use Rattle.agreement.specs.Calls as calls-of
 use Rattle.agreement.specs.Story.{Pair, exchanged, Story, nothingYet, usesAfresh, usedAfresh, answered, clears, cleared, storyAfter, storyOf, groupsIn, limitIn}
 use Rattle.agreement.specs.Sent.{drawn, expectedOf, Among, SendsBy, Sent, SentOver}
-use Rattle.agreement.specs.Statement.{Uses, Meets, run, link, Premises}
+use Rattle.agreement.specs.Statement.{Uses, Meets, run, link, Premises, SetTo}
 use Rattle.witness.specs.Printers.{own, Printer, settings, commit, filled, value, setUp, starts, gets}
 
 -- ---- where a list stands: both tables, and the story that each printer has of the other
@@ -233,6 +235,23 @@ premises-of k u = record {
   only = λ X e before a t f r x v c d z q n. every-comes k c .hears X a t f r x v z q;
   right = λ X e before a t f r x n p c d z q m. every-comes k c .trusts X a t f r x n p z q;
 }
+
+-- ---- what the printers of a list are set to: the Sync limit of every set up stands for its printer's
+
+pub data Sets (limits : Side → ℕ) : List Entry → Type 0 where
+  nothing : Sets limits []
+  sets : (P : Printer) {h : List Entry} → limitOf (settingsOf (settings P) .limit) ≡ limits (P .side) → Sets limits h → Sets limits (setUp P ∷ h)
+  begins : {X : Side} {stock : List ℕ} {h : List Entry} → Sets limits h → Sets limits (starts X stock ∷ h)
+  hears : {X : Side} {octets stock : List ℕ} {v : ℕ} {h : List Entry} → Sets limits h → Sets limits (gets X octets stock v ∷ h)
+
+pub sets-to : {limits : Side → ℕ} {h : List Entry} → Sets limits h → (X : Side) → SetTo (limits X) X h
+sets-to {limits} (sets P l r) X e before size b o s last d z q =
+    let j : settings P ≡ s = cc in subst (λ (x : List ℕ). limitOf (settingsOf x .limit) ≡ limits X) j (l ∙ ap limits z)
+sets-to (sets P l r) X e before size b o s (sooner c) d z q = sets-to r X e before size b o s c d z q
+sets-to (begins r) X e before size b o s last d z q = not-call cc
+sets-to (begins r) X e before size b o s (sooner c) d z q = sets-to r X e before size b o s c d z q
+sets-to (hears r) X e before size b o s last d z q = not-call cc
+sets-to (hears r) X e before size b o s (sooner c) d z q = sets-to r X e before size b o s c d z q
 
 -- ---- all that is handed over can be
 
