@@ -56,14 +56,16 @@ static struct printer printers[2] = {
                   [SAE_SETTINGS_GROUPS] = SAE_GROUP_21,
                   [SAE_SETTINGS_GROUPS + 2] = SAE_GROUP_20,
                   [SAE_SETTINGS_GROUPS + 4] = SAE_GROUP_19,
-                  [SAE_SETTINGS_THRESHOLD] = SAE_FACTORY_THRESHOLD}},
+                  [SAE_SETTINGS_THRESHOLD] = SAE_FACTORY_THRESHOLD,
+                  [SAE_SETTINGS_PERIOD] = SAE_FACTORY_PERIOD,
+                  [SAE_SETTINGS_SYNC_LIMIT] = SAE_FACTORY_SYNC_LIMIT}},
     {.name = 'B',
      .address = {0x02, 0, 0, 0, 0, 0x0b},
      .clock_begins = UINT32_MAX - 60, /* it soon wraps */
      .settings = {[SAE_SETTINGS_COUNT] = 2,
                   [SAE_SETTINGS_GROUPS] = SAE_GROUP_20,
                   [SAE_SETTINGS_GROUPS + 2] = SAE_GROUP_19,
-                  [SAE_SETTINGS_THRESHOLD] = 0}},
+                  [SAE_SETTINGS_THRESHOLD] = 0}}, /* period and Sync limit are 0 too: the factory's */
 };
 static const uint8_t switched_off[SAE_ADDRESS_LEN] = {0x02, 0, 0, 0, 0, 0x0c};
 static struct frame air[IN_FLIGHT];

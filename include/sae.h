@@ -26,7 +26,7 @@ extern "C" {
 /* The version of this interface. The first number rises when a host must be looked at again: a call's arguments, a layout or what a call
  * does has changed. The second rises when calls or names were added. */
 #define SAE_VERSION_MAJOR 3
-#define SAE_VERSION_MINOR 0
+#define SAE_VERSION_MINOR 1
 
 /* Lengths, in octets. */
 #define SAE_ADDRESS_LEN 6
@@ -96,16 +96,21 @@ enum sae_refusal {
     SAE_REFUSED_BUFFER = 11    /* the frame is longer than the out buffer */
 };
 
-/* Settings, 16 octets. Octets 1 and 10-15 are 0. */
-#define SAE_SETTINGS_COUNT 0     /* 1 octet: number of groups, 1 to 3 */
-#define SAE_SETTINGS_GROUPS 2    /* 2 octets each, three of them: 19, 20 or 21, each once, the most preferred first; 0 past their number */
-#define SAE_SETTINGS_THRESHOLD 8 /* 2 octets, 0 to 64: with so many runs open a Commit of a peer without one needs the expected token */
+/* Settings, 16 octets. Octets 1 and 13-15 are 0. sae_initialize stores them as they are given, a 0 as a 0. */
+#define SAE_SETTINGS_COUNT 0       /* 1 octet: number of groups, 1 to 3 */
+#define SAE_SETTINGS_GROUPS 2      /* 2 octets each, three: 19, 20 or 21, each once, the most preferred first; 0 past their number */
+#define SAE_SETTINGS_THRESHOLD 8   /* 2 octets, 0 to 64: with so many runs open a Commit of a peer without one needs the expected token */
+#define SAE_SETTINGS_PERIOD 10     /* 2 octets, 10 to 1,000 milliseconds, or 0 for SAE_FACTORY_PERIOD: the first retry of a run comes after
+                                      it, each further one after twice the time before */
+#define SAE_SETTINGS_SYNC_LIMIT 12 /* 1 octet, 1 to 10, or 0 for SAE_FACTORY_SYNC_LIMIT: a run whose Sync is above it is given up instead of
+                                      repeated, and a Confirm then ends a link */
 
-/* Factory settings: as an initializer of the 16 octets, and number by number. Period and Sync limit cannot be set. */
-#define SAE_FACTORY_SETTINGS {2, 0, SAE_GROUP_19, 0, SAE_GROUP_20, 0, 0, 0, SAE_FACTORY_THRESHOLD, 0, 0, 0, 0, 0, 0, 0}
+/* Factory settings: as an initializer of the 16 octets, and number by number. */
+#define SAE_FACTORY_SETTINGS {2, 0, SAE_GROUP_19, 0, SAE_GROUP_20, 0, 0, 0, SAE_FACTORY_THRESHOLD, 0, SAE_FACTORY_PERIOD, 0, \
+                              SAE_FACTORY_SYNC_LIMIT, 0, 0, 0}
 #define SAE_FACTORY_THRESHOLD 5
-#define SAE_FACTORY_PERIOD 40    /* milliseconds: the first retry of a run comes after it, each further one after twice the time before */
-#define SAE_FACTORY_SYNC_LIMIT 5 /* a run whose Sync is above it is given up instead of repeated, and a Confirm then ends a link */
+#define SAE_FACTORY_PERIOD 40
+#define SAE_FACTORY_SYNC_LIMIT 5
 
 /* Answer, 28 octets. Octet 11 is 0. */
 #define SAE_ANSWER_NONE_DUE 0              /* 1 octet: 1 if no deadline is due (sae_expire; all else is 0 then), else 0 */
@@ -141,15 +146,16 @@ enum sae_refusal {
 /* Fresh commits, SAE_COMMIT_LEN(form) octets for each listed group in the order of the list: scalar, element, zeros. Made by the chip and
  * never used before. If the answer names a group (SAE_ANSWER_FRESH), that one is used up and never offered again; the others may be. */
 
-/* Where things stand in the header. The host may look into the table between calls; only the engine writes it. Octets 10-15 and 23 are
- * 0. */
+/* Where things stand in the header. The host may look into the table between calls; only the engine writes it. Octets 10-13 are 0. */
 #define SAE_HEADER_SLOTS 0        /* 2 octets: records, free ones too */
 #define SAE_HEADER_USED 2         /* 2 octets: records in use */
 #define SAE_HEADER_OPEN 4         /* 2 octets: records with a run */
 #define SAE_HEADER_RECORD_SIZE 6  /* 2 octets: the form, SAE_NARROW or SAE_WIDE */
 #define SAE_HEADER_FIRST 8        /* 2 octets: offset of the first record, 32 */
+#define SAE_HEADER_PERIOD 14      /* 2 octets: as in the settings, 0 for the factory's, in both forms */
 #define SAE_HEADER_OWN 16         /* 6 octets: own address */
 #define SAE_HEADER_COUNT 22       /* 1 octet: number of groups */
+#define SAE_HEADER_SYNC_LIMIT 23  /* 1 octet: as in the settings, 0 for the factory's, in both forms */
 #define SAE_HEADER_GROUPS 24      /* 2 octets each: the first two groups, 0 past their number */
 #define SAE_HEADER_THRESHOLD 28   /* 2 octets */
 #define SAE_HEADER_THIRD_GROUP 30 /* 2 octets: the third group, 0 if there is none; always 0 in SAE_NARROW */
@@ -168,7 +174,7 @@ enum sae_run_state {
 #define SAE_RECORD_IN_USE 0        /* 1 octet, 0 or 1 */
 #define SAE_RECORD_ADDRESS 1       /* 6 octets */
 #define SAE_RECORD_STATE 7         /* 1 octet (enum sae_run_state) */
-#define SAE_RECORD_SYNC 8          /* 1 octet: repeats of the run since it began or, once its pair is formed, since then */
+#define SAE_RECORD_SYNC 8          /* 1 octet: the run's repeats since it began or, once its pair is formed, since then; to limit + 1 */
 #define SAE_RECORD_REJECTED 9      /* 1 octet: bit i is set if the peer refused the i-th listed group, from 0 */
 #define SAE_RECORD_SC 10           /* 2 octets: the counter of the run's last Confirm */
 #define SAE_RECORD_GROUP 12        /* 2 octets: the run's group */
@@ -181,7 +187,7 @@ enum sae_run_state {
 #define SAE_RECORD_TOKEN(form) (SAE_RECORD_PEER(form) + SAE_COMMIT_LEN(form)) /* 308, 416: 256 octets, zero past the token */
 #define SAE_RECORD_LINK(form) (SAE_RECORD_TOKEN(form) + SAE_TOKEN_LEN) /* 564, 672: 1 octet, finished link, 0 or 1 */
 #define SAE_RECORD_SUPERSEDED(form) (SAE_RECORD_LINK(form) + 1) /* 565, 673: 1 octet, the link's mark, 1 if a pair was formed since */
-#define SAE_RECORD_LINK_SYNC(form) (SAE_RECORD_LINK(form) + 2) /* 566, 674: 1 octet */
+#define SAE_RECORD_LINK_SYNC(form) (SAE_RECORD_LINK(form) + 2) /* 566, 674: 1 octet, to limit + 1 */
 #define SAE_RECORD_LINK_GROUP(form) (SAE_RECORD_LINK(form) + 4) /* 568, 676: 2 octets */
 #define SAE_RECORD_RC(form) (SAE_RECORD_LINK(form) + 6) /* 570, 678: 2 octets, the counter last taken */
 #define SAE_RECORD_T1(form) (SAE_RECORD_LINK(form) + 8) /* 572, 680: 4 octets, the link's deadline */

@@ -8,15 +8,17 @@ use crate::mesh::Mesh;
 use crate::plain::frame::{self, Body, COMMIT as COMMIT_FRAME, CONFIRM, SUCCESS, TOKEN_REQUIRED, VALUE};
 use crate::plain::octets::Address;
 use crate::plain::peer::State;
-use crate::plain::table::{Groups, Settings};
+use crate::plain::table::{Groups, Pace, Settings};
 use crate::together::{Fault, Known, Together};
 
 /// The addresses of A and B.
 pub const ADDRESSES: [Address; 2] = [[2, 0, 0, 0, 0, 0x0a], [2, 0, 0, 0, 0, 0x0b]];
 pub const NAMES: [char; 2] = ['A', 'B'];
 
-/// When a play that has not come to rest is left, in milliseconds.
+/// When a play that has not come to rest is left, in milliseconds, unless its settings let runs last long.
 pub const LAST: u64 = 120_000;
+/// How many times the silence until giving up a play lasts, where that is longer.
+const SILENCES: u64 = 10;
 
 /// Whose peer an end is.
 #[derive(Clone, Copy, PartialEq)]
@@ -26,6 +28,8 @@ pub enum Maker {
     Mesh,
     /// The one in access_point.rs.
     AccessPoint,
+    /// There is none: what is sent to it is not answered.
+    Nobody,
 }
 
 /// What is played. The first of each two is A's, the second B's.
@@ -42,6 +46,9 @@ pub struct Plan {
     /// The groups that this end lists and the form of its table, if it is ours.
     pub groups: [Groups; 2],
     pub forms: [&'static Layout; 2],
+    /// The first period and the Sync limit of its settings, as they are handed over, if it is ours.
+    pub periods: [u16; 2],
+    pub sync_limits: [u8; 2],
     /// Whether this end, if it is ours, asks for a token from the first run on.
     pub asks_token: [bool; 2],
     /// Whether a host of ours leaves out a 76 with the token that its run has already.
@@ -60,10 +67,32 @@ impl Plan {
             makers: [Maker::Ours; 2],
             groups: [Settings::factory().groups; 2],
             forms: [&WIDE; 2],
+            periods: [Settings::PERIOD; 2],
+            sync_limits: [Settings::SYNC_LIMIT; 2],
             asks_token: [false; 2],
             filters_requests: false,
             same_password: true,
         }
+    }
+
+    /// How runs of this end repeat, if it is ours and its settings are right.
+    pub fn pace(&self, who: usize) -> Option<Pace> {
+        Pace::of(self.periods[who], self.sync_limits[who])
+    }
+
+    /// Whether a longer delay moves nothing but the moments at which frames arrive.
+    fn looks_alike(&self) -> bool {
+        self.takes[0] == self.takes[1]
+            && self.chip == [0; 2]
+            && self.makers.iter().all(|maker| matches!(maker, Maker::Ours | Maker::Nobody))
+    }
+
+    /// When this play is left, if it has not come to rest.
+    pub fn last(&self) -> u64 {
+        // All waits of a run together are one period less than the wait that would come next.
+        let silence = |pace: Pace| u64::from(pace.delay(pace.highest_sync() + 1));
+        let longest = (0..2).filter_map(|who| self.pace(who)).map(silence).max();
+        LAST.max(SILENCES * longest.unwrap_or(0))
     }
 }
 
@@ -96,6 +125,9 @@ pub struct Outcome {
     pub links: [Option<Link>; 2],
     /// Whether it came to rest: no frame in the air, no run.
     pub rests: bool,
+    /// With a delay longer by up to so many milliseconds the same happens in the same order. It is looked for where both directions take
+    /// the same and each end is ours, without time at the chip, or nobody; else it is 0.
+    pub alike: u64,
 }
 
 /// Plays until nothing is left to wait for. What falls in the same millisecond: starts first, then frames in the order in which they
@@ -107,12 +139,22 @@ pub fn play(plan: &Plan, tell: bool) -> Result<Outcome, Fault> {
             Maker::Ours => Box::new(Ours::new(who, password, plan)),
             Maker::Mesh => Box::new(Mesh::new(ADDRESSES[who], password)),
             Maker::AccessPoint => Box::new(AccessPoint),
+            Maker::Nobody => Box::new(Nobody),
         }
     });
-    let starts = plan.starts;
-    let mut air = Air { plan, tell, ends, starts, flights: Vec::new(), asked: [None; 2], events: [Vec::new(), Vec::new()] };
-    while let Some((now, next)) = air.next() {
-        if now > LAST {
+    let mut air = Air {
+        plan,
+        tell,
+        ends,
+        starts: plan.starts,
+        flights: Vec::new(),
+        asked: [None; 2],
+        delays_sent: [0; 2],
+        events: [Vec::new(), Vec::new()],
+    };
+    let (last, mut alike) = (plan.last(), if plan.looks_alike() { u64::MAX } else { 0 });
+    while let Some((now, next)) = air.next(&mut alike) {
+        if now.at > last {
             break;
         }
         match next {
@@ -120,13 +162,63 @@ pub fn play(plan: &Plan, tell: bool) -> Result<Outcome, Fault> {
             Next::Frame(place) => air.deliver(now, place)?,
             Next::Clock(who) => {
                 air.say(now, who, || "t0 is due".into());
-                let turn = air.ends[who].expire(now)?;
+                let turn = air.ends[who].expire(now.at)?;
                 air.take(now, who, turn);
             }
         }
     }
     let links = [air.ends[0].link(), air.ends[1].link()];
-    Ok(Outcome { rests: air.next().is_none(), events: air.events, links })
+    Ok(Outcome { rests: air.next(&mut alike).is_none(), events: air.events, links, alike })
+}
+
+/// A time: its millisecond, and how many delays it took to come there. With a delay longer by one it is so many milliseconds later.
+#[derive(Clone, Copy)]
+struct Moment {
+    at: u64,
+    delays: u64,
+}
+
+impl Moment {
+    fn later(self, milliseconds: u64) -> Moment {
+        Moment { at: self.at + milliseconds, ..self }
+    }
+
+    /// By how much longer a delay still leaves this moment, which comes first now, before another.
+    fn stays_before(self, other: Moment) -> u64 {
+        match self.delays.checked_sub(other.delays) {
+            None | Some(0) => u64::MAX,
+            Some(faster) => (other.at - self.at).saturating_sub(1) / faster,
+        }
+    }
+}
+
+/// An end at which there is nobody.
+struct Nobody;
+
+impl End for Nobody {
+    fn start(&mut self, _: u64) -> Result<Turn, Fault> {
+        Ok(Turn::default())
+    }
+
+    fn receive(&mut self, _: u64, _: &[u8]) -> Result<Turn, Fault> {
+        Ok(Turn::default())
+    }
+
+    fn expire(&mut self, _: u64) -> Result<Turn, Fault> {
+        Ok(Turn::default())
+    }
+
+    fn asks_chip(&self, _: &[u8]) -> bool {
+        false
+    }
+
+    fn deadline(&self) -> Option<u64> {
+        None
+    }
+
+    fn link(&self) -> Option<Link> {
+        None
+    }
 }
 
 /// What comes next: a start, something about the frame at this place among those on their way, or a deadline.
@@ -140,7 +232,7 @@ enum Next {
 struct Flight {
     to: usize,
     sent: u64,
-    arrives: u64,
+    arrives: Moment,
     octets: Vec<u8>,
 }
 
@@ -153,70 +245,87 @@ struct Air<'a> {
     /// In the order in which they were sent.
     flights: Vec<Flight>,
     /// When the chip of each end answers, if it has been asked about the first frame that arrived there.
-    asked: [Option<u64>; 2],
+    asked: [Option<Moment>; 2],
+    /// How many delays it took to come to where each end sent last: its deadline was set there.
+    delays_sent: [u64; 2],
     events: [Vec<(u64, u8)>; 2],
 }
 
 impl Air<'_> {
-    /// The earliest of all that is to come. What is named first here comes first in its millisecond.
-    fn next(&self) -> Option<(u64, Next)> {
-        let start = (0..2).filter_map(|who| Some((self.starts[who]?, Next::Start(who))));
-        let frame = (0..2).filter_map(|who| self.first(who)).min_by_key(|&(at, place)| (at, self.flights[place].sent));
-        let clock = (0..2).filter_map(|who| Some((self.ends[who].deadline()?, Next::Clock(who))));
-        start.chain(frame.map(|(at, place)| (at, Next::Frame(place)))).chain(clock).min_by_key(|(at, _)| *at)
+    /// The earliest of all that is to come. What is named first here comes first in its millisecond. `alike` falls to what a delay may
+    /// grow by for this to stay the earliest.
+    fn next(&self, alike: &mut u64) -> Option<(Moment, Next)> {
+        let start = (0..2).filter_map(|who| Some((Moment { at: self.starts[who]?, delays: 0 }, Next::Start(who))));
+        let mut frames: Vec<(Moment, usize)> = (0..2).filter_map(|who| self.first(who)).collect();
+        frames.sort_by_key(|&(when, place)| (when.at, self.flights[place].sent));
+        let frame = frames.into_iter().map(|(when, place)| (when, Next::Frame(place)));
+        let clock = (0..2).filter_map(|who| {
+            let due = Moment { at: self.ends[who].deadline()?, delays: self.delays_sent[who] };
+            Some((due, Next::Clock(who)))
+        });
+        let mut to_come: Vec<(Moment, Next)> = start.chain(frame).chain(clock).collect();
+        to_come.sort_by_key(|(when, _)| when.at);
+        let first = to_come.first()?.0;
+        let stays = to_come[1..].iter().map(|(when, _)| first.stays_before(*when)).min();
+        *alike = (*alike).min(stays.unwrap_or(u64::MAX));
+        to_come.into_iter().next()
     }
 
     /// An end starts, unless it has heard from the other.
-    fn start(&mut self, now: u64, who: usize) -> Result<(), Fault> {
+    fn start(&mut self, now: Moment, who: usize) -> Result<(), Fault> {
         self.starts[who] = None;
         if self.ends[who].deadline().is_none() && self.ends[who].link().is_none() {
             self.say(now, who, || "starts".into());
-            let turn = self.ends[who].start(now)?;
+            let turn = self.ends[who].start(now.at)?;
             self.take(now, who, turn);
         }
         Ok(())
     }
 
     /// When something is done about the first frame on its way to an end, and its place.
-    fn first(&self, who: usize) -> Option<(u64, usize)> {
+    fn first(&self, who: usize) -> Option<(Moment, usize)> {
         let place = self.flights.iter().position(|flight| flight.to == who)?;
         Some((self.asked[who].unwrap_or(self.flights[place].arrives), place))
     }
 
     /// Asks the chip about a frame, or, if nothing is left to ask, makes the call.
-    fn deliver(&mut self, now: u64, place: usize) -> Result<(), Fault> {
+    fn deliver(&mut self, now: Moment, place: usize) -> Result<(), Fault> {
         let (who, chip) = (self.flights[place].to, self.plan.chip[self.flights[place].to]);
         if self.asked[who].is_none() && chip > 0 && self.ends[who].asks_chip(&self.flights[place].octets) {
-            self.asked[who] = Some(now + chip);
+            self.asked[who] = Some(now.later(chip));
             return Ok(());
         }
         self.asked[who] = None;
         let octets = self.flights.remove(place).octets;
         // The next frame, if it is there already, has waited until now.
         if let Some(next) = self.flights.iter_mut().find(|flight| flight.to == who) {
-            next.arrives = next.arrives.max(now);
+            next.arrives.at = next.arrives.at.max(now.at);
         }
         self.say(now, who, || format!("gets {}", words(&octets)));
-        let turn = self.ends[who].receive(now, &octets)?;
+        let turn = self.ends[who].receive(now.at, &octets)?;
         self.take(now, who, turn);
         Ok(())
     }
 
     /// Takes in what an end did.
-    fn take(&mut self, now: u64, who: usize, turn: Turn) {
+    fn take(&mut self, now: Moment, who: usize, turn: Turn) {
         if turn.event != 0 {
             self.say(now, who, || format!("event {}, {}", turn.event, EVENTS[usize::from(turn.event)]));
-            self.events[who].push((now, turn.event));
+            self.events[who].push((now.at, turn.event));
+        }
+        if !turn.frames.is_empty() {
+            self.delays_sent[who] = now.delays;
         }
         for octets in turn.frames {
             self.say(now, who, || format!("sends {}", words(&octets)));
-            self.flights.push(Flight { to: 1 - who, sent: now, arrives: now + self.plan.takes[who], octets });
+            let arrives = Moment { at: now.at + self.plan.takes[who], delays: now.delays + 1 };
+            self.flights.push(Flight { to: 1 - who, sent: now.at, arrives, octets });
         }
     }
 
-    fn say(&self, now: u64, who: usize, what: impl FnOnce() -> String) {
+    fn say(&self, now: Moment, who: usize, what: impl FnOnce() -> String) {
         if self.tell {
-            println!("{now:>7} ms  {}  {}", NAMES[who], what());
+            println!("{:>7} ms  {}  {}", now.at, NAMES[who], what());
         }
     }
 }
@@ -303,7 +412,8 @@ impl Ours {
     fn new(who: usize, password: u8, plan: &Plan) -> Ours {
         let (own, other, form) = (ADDRESSES[who], ADDRESSES[1 - who], plan.forms[who]);
         let threshold = if plan.asks_token[who] { 0 } else { Settings::THRESHOLD };
-        let settings = Settings { groups: plan.groups[who], threshold };
+        let (period, sync_limit) = (plan.periods[who], plan.sync_limits[who]);
+        let settings = Settings { groups: plan.groups[who], threshold, period, sync_limit };
         let together = Together::new(&form.fresh_table(1, &own, &settings), Known::Sound);
         let filters_requests = plan.filters_requests;
         let mut ours = Ours { own, other, password, filters_requests, together, counts: Counts::default(), used: 0 };

@@ -140,7 +140,7 @@ fn rows(kind: Kind, slots: usize) -> Vec<Row> {
     let fresh = fresh(&mut random, kind);
     let full = table(&mut random, kind, slots, slots);
     let one_free = table(&mut random, kind, slots, slots - 1);
-    let empty = kind.form.fresh_table(slots, &OWN, &Settings::factory());
+    let empty = kind.form.fresh_table(slots, &OWN, &settings(kind, Settings::THRESHOLD));
     let (last, stranger) = (address(slots - 1), address(99));
     let mut confirmed = full.clone();
     record(&mut random, kind, &mut confirmed, slots - 1, Holds::Confirmed);
@@ -219,6 +219,16 @@ fn frame(sequence: u16, field: u16, rest: &[u8]) -> Vec<u8> {
     frame
 }
 
+/// Settings of a row's table. A wide one has period and Sync limit as factory settings store them; a narrow one, as a host still
+/// holds it from before there were any, has zeros there.
+fn settings(kind: Kind, threshold: u16) -> Settings {
+    let settings = Settings { groups: kind.groups, threshold, ..Settings::factory() };
+    match *kind.form == NARROW {
+        true => Settings { period: 0, sync_limit: 0, ..settings },
+        false => settings,
+    }
+}
+
 /// What a record holds.
 enum Holds {
     Committed,
@@ -229,7 +239,7 @@ enum Holds {
 
 /// A table with so many records, of all kinds in turn, in its last slots; threshold 64, nothing due.
 fn table(random: &mut Random, kind: Kind, slots: usize, in_use: usize) -> Vec<u8> {
-    let mut table = kind.form.fresh_table(slots, &OWN, &Settings { groups: kind.groups, threshold: 64 });
+    let mut table = kind.form.fresh_table(slots, &OWN, &settings(kind, 64));
     for slot in slots - in_use..slots {
         let holds = [Holds::Committed, Holds::Confirmed, Holds::Linked, Holds::Both].into_iter().nth(slot % 4).expect("four kinds");
         record(random, kind, &mut table, slot, holds);

@@ -11,7 +11,7 @@ use crate::trace::number;
 /// The largest value of a sweep unless told otherwise, in milliseconds.
 const MOST: u64 = 3000;
 
-/// `sweep [MOST]`, or what is played, as words `name=value`.
+/// `sweep [MOST]`, `settings [every]`, or, by itself or after `most`, what is played, as words `name=value`.
 pub fn run(words: &[String]) -> Result<bool, String> {
     let words: Vec<&str> = words.iter().map(String::as_str).collect();
     let names: Vec<_> = engines().iter().map(|engine| engine.name()).collect();
@@ -19,6 +19,9 @@ pub fn run(words: &[String]) -> Result<bool, String> {
     let played = match words[..] {
         ["sweep"] => sweep(MOST),
         ["sweep", most] => sweep(number(most)?),
+        ["settings"] => settings(Step::Alike),
+        ["settings", "every"] => settings(Step::Every),
+        ["most", ref words @ ..] => most(&plan(words)?),
         _ => one(&plan(&words)?),
     };
     match played {
@@ -48,6 +51,12 @@ fn plan(words: &[&str]) -> Result<Plan, String> {
             Some(("asks", ms)) => asks = Some(number(ms)?),
             Some(("a", list)) => plan.groups[0] = groups(list)?,
             Some(("b", list)) => plan.groups[1] = groups(list)?,
+            Some(("period", ms)) => plan.periods = [number(ms)?; 2],
+            Some(("aperiod", ms)) => plan.periods[0] = number(ms)?,
+            Some(("bperiod", ms)) => plan.periods[1] = number(ms)?,
+            Some(("limit", most)) => plan.sync_limits = [number(most)?; 2],
+            Some(("alimit", most)) => plan.sync_limits[0] = number(most)?,
+            Some(("blimit", most)) => plan.sync_limits[1] = number(most)?,
             Some(("form", "wide")) => plan.forms = [&WIDE; 2],
             Some(("form", "narrow")) => plan.forms = [&NARROW; 2],
             Some(("form", "mixed")) => plan.forms = [&NARROW, &WIDE],
@@ -71,10 +80,13 @@ fn plan(words: &[&str]) -> Result<Plan, String> {
     if let Some(ms) = asks {
         (plan.makers, plan.chip[1]) = (WITH_ACCESS_POINT, ms);
     }
-    match (0..2).all(|who| plan.forms[who].lists().contains(&plan.groups[who])) {
-        true => Ok(plan),
-        false => Err("a list of groups that no table of its form can have".into()),
+    if !(0..2).all(|who| plan.forms[who].lists().contains(&plan.groups[who])) {
+        return Err("a list of groups that no table of its form can have".into());
     }
+    if !(0..2).all(|who| plan.pace(who).is_some()) {
+        return Err("a first period that is not 0 or 10 to 1000, or a Sync limit that is not 0 or 1 to 10".into());
+    }
+    Ok(plan)
 }
 
 /// The groups that a word lists, with commas between them.
@@ -158,6 +170,7 @@ struct Series {
 
 const WITH_MESH: [Maker; 2] = [Maker::Ours, Maker::Mesh];
 const WITH_ACCESS_POINT: [Maker; 2] = [Maker::Ours, Maker::AccessPoint];
+const WITH_NOBODY: [Maker; 2] = [Maker::Ours, Maker::Nobody];
 const BOTH: [Option<u64>; 2] = [Some(0); 2];
 
 const SERIES: [Series; 13] = [
@@ -230,6 +243,75 @@ fn sweep(most: u64) -> Result<(), Fault> {
     }
     println!("\nwhere both are linked and stay so:\n{}", limits.join("\n"));
     Ok(())
+}
+
+/// The first periods and the Sync limits of the table that `settings` prints.
+const PERIODS: [u16; 5] = [10, 40, 100, 250, 1000];
+const SYNC_LIMITS: [u8; 3] = [1, 5, 10];
+
+/// Prints, for each period and limit, up to which delay both are linked and stay so, and how long a start waits that nobody answers.
+fn settings(step: Step) -> Result<(), Fault> {
+    println!("the largest delay up to which, from 0 on, both are linked with clear marks and stay so, and the silence until giving up; ms");
+    println!("{}", step.words());
+    println!("\n| Period | Sync limit | One starts | Both start | Given up after |\n|---:|---:|---:|---:|---:|");
+    for period in PERIODS {
+        for sync_limit in SYNC_LIMITS {
+            let plan = Plan { periods: [period; 2], sync_limits: [sync_limit; 2], ..Plan::ours(0) };
+            let (one, _) = last_linked(&plan, step)?;
+            let (both, _) = last_linked(&Plan { starts: BOTH, ..plan }, step)?;
+            println!("| {period} | {sync_limit} | {one} | {both} | {} |", silence(&plan)?);
+        }
+    }
+    Ok(())
+}
+
+/// Prints up to which delay a play links both, and what it comes to one millisecond above that.
+fn most(plan: &Plan) -> Result<(), Fault> {
+    let (last, above) = last_linked(plan, Step::Alike)?;
+    let [a, b] = [0, 1].map(|who| format!("period {}, Sync limit {}", plan.periods[who], plan.sync_limits[who]));
+    println!("{}", Step::Alike.words());
+    println!("A: {a}; B: {b}");
+    println!("both linked with clear marks, and it stays so, up to a delay of {last} ms; one millisecond above:");
+    println!("\n| Outcome | Events at A | at B | Links |\n|---|---|---|---|\n| {} |", row(&above));
+    Ok(())
+}
+
+/// Which delays are played.
+#[derive(Clone, Copy)]
+enum Step {
+    Every,
+    /// Those at which the order of what happens changes: between two of them the same happens at each millisecond.
+    Alike,
+}
+
+impl Step {
+    fn words(self) -> &'static str {
+        match self {
+            Step::Every => "every millisecond of delay is played",
+            Step::Alike => "a delay is played where the order of what happens differs from that with a millisecond less",
+        }
+    }
+}
+
+/// The largest delay up to which every delay, from 0 on, links both; and what the next one comes to.
+fn last_linked(plan: &Plan, step: Step) -> Result<(String, Outcome), Fault> {
+    let mut delay = 0;
+    loop {
+        let outcome = play(&Plan { takes: [delay; 2], ..*plan }, false)?;
+        if Kind::of(&outcome) != Kind::Linked {
+            return Ok((delay.checked_sub(1).map_or("none".into(), |last: u64| last.to_string()), outcome));
+        }
+        delay += match step {
+            Step::Every => 1,
+            Step::Alike => outcome.alike.checked_add(1).expect("some longer delay changes the order"),
+        };
+    }
+}
+
+/// Milliseconds from a start that nobody answers to event 2, the clock served as each deadline falls.
+fn silence(plan: &Plan) -> Result<u64, Fault> {
+    let outcome = play(&Plan { makers: WITH_NOBODY, ..*plan }, false)?;
+    Ok(outcome.events[0].iter().find(|(_, event)| *event == 2).map_or(0, |(at, _)| *at))
 }
 
 /// The outcome, the events at each end and who holds a link, as cells of a row.

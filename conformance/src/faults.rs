@@ -1,10 +1,11 @@
 //! Faults: a table of the form with one thing wrong, or with octets changed anywhere.
 
-use crate::forms::{groups_of, records, Layout, NARROW};
+use crate::forms::{groups_of, pace_of, records, Layout, NARROW};
+use crate::inputs::{WRONG_PERIODS, WRONG_SYNC_LIMITS};
 use crate::plain::frame::commit_len;
 use crate::plain::octets::{get16, put16, Address};
-use crate::plain::peer::{at, HIGHEST_SYNC};
-use crate::plain::table::{Groups, HEADER, TOKEN};
+use crate::plain::peer::at;
+use crate::plain::table::{Groups, HEADER, PERIOD_AT, SYNC_LIMIT_AT, TOKEN};
 use crate::random::Random;
 
 /// Makes a table of the form unsound by one fault that is surely one. Answers what it is, or nothing if there is no place for it.
@@ -15,6 +16,7 @@ pub fn fault(random: &mut Random, table: &mut Vec<u8>) -> Option<&'static str> {
     }
     let slot = random.below(records(table).len());
     let groups = groups_of(table);
+    let highest_sync = pace_of(table)?.highest_sync();
     let own: Address = table[16..22].try_into().expect("six octets");
     let others: Vec<Address> =
         records(table).enumerate().filter(|(at, peer)| *at != slot && peer.in_use()).map(|(_, peer)| peer.address()).collect();
@@ -32,11 +34,13 @@ pub fn fault(random: &mut Random, table: &mut Vec<u8>) -> Option<&'static str> {
             octets[random.within(at::STATE + 1, form.link - 1)] = nonzero;
             Some("an octet of no run")
         }
+        1 | 2 if random.percent(10) => run_sync_fault(random, octets, highest_sync),
         1 | 2 => run_fault(random, octets, form, &groups, unlisted, nonzero),
         _ if octets[form.link] == 0 => {
             octets[random.within(form.link + 1, form.record - 1)] = nonzero;
             Some("an octet of no link")
         }
+        _ if random.percent(15) => link_sync_fault(random, octets, form, highest_sync),
         _ => link_fault(random, octets, form, unlisted, nonzero),
     }
 }
@@ -48,14 +52,14 @@ fn header_fault(random: &mut Random, table: &mut Vec<u8>, form: &Layout) -> Opti
         put16(table, place, new);
         new != now
     };
-    match random.below(16) {
+    match random.below(20) {
         0 => other(random, table, 0).then_some("slots"),
         1 => other(random, table, 2).then_some("count in use"),
         2 => other(random, table, 4).then_some("Open"),
         3 => other(random, table, 6).then_some("record size"),
         4 => other(random, table, 8).then_some("first record's offset"),
         5 => {
-            table[*random.pick(&[10, 11, 12, 13, 14, 15, 23])] = random.within(1, 255) as u8;
+            table[*random.pick(&[10, 11, 12, 13])] = random.within(1, 255) as u8;
             Some("a zero octet of the header")
         }
         6 => {
@@ -85,6 +89,15 @@ fn header_fault(random: &mut Random, table: &mut Vec<u8>, form: &Layout) -> Opti
             put16(table, 0, form.slots as u16 + 1);
             Some("a slot too many")
         }
+        14 | 15 => {
+            put16(table, PERIOD_AT, *random.pick(&WRONG_PERIODS));
+            Some("first period")
+        }
+        16 => {
+            table[SYNC_LIMIT_AT] = *random.pick(&WRONG_SYNC_LIMITS);
+            Some("Sync limit, above 10")
+        }
+        17 => lowered_limit(table),
         _ => {
             let (length, record, most) = (table.len(), form.record, form.length(form.slots + 1));
             let new = *random.pick(&[0, 1, 31, 32, 33, length - 1, length + 1, length - record, length + record, most]);
@@ -92,6 +105,36 @@ fn header_fault(random: &mut Random, table: &mut Vec<u8>, form: &Layout) -> Opti
             Some("length")
         }
     }
+}
+
+/// A Sync limit, right by itself, that is too low for a record's Sync.
+fn lowered_limit(table: &mut [u8]) -> Option<&'static str> {
+    let highest = records(table).flat_map(|peer| [peer.sync(), peer.link_sync()]).max()?;
+    table[SYNC_LIMIT_AT] = highest.checked_sub(2).filter(|limit| *limit > 0)?;
+    Some("Sync limit, below a record's Sync")
+}
+
+/// A Sync above those that are stored: mostly the next.
+fn sync_above(random: &mut Random, highest: u8) -> u8 {
+    match random.percent(60) {
+        true => highest + 1,
+        false => random.within(usize::from(highest) + 1, 255) as u8,
+    }
+}
+
+/// A run's Sync above the limit + 1; Sc goes with it, so that nothing else is wrong.
+fn run_sync_fault(random: &mut Random, octets: &mut [u8], highest: u8) -> Option<&'static str> {
+    let sync = sync_above(random, highest);
+    octets[at::SYNC] = sync;
+    if octets[at::STATE] == 2 {
+        put16(octets, at::SC, u16::from(sync) + 1);
+    }
+    Some("Sync, above the limit + 1")
+}
+
+fn link_sync_fault(random: &mut Random, octets: &mut [u8], form: &Layout, highest: u8) -> Option<&'static str> {
+    octets[form.link_sync] = sync_above(random, highest);
+    Some("link's Sync, above the limit + 1")
 }
 
 /// A list of groups that the form does not have.
@@ -159,7 +202,7 @@ fn address_fault(random: &mut Random, octets: &mut [u8], own: Address, others: &
 fn run_fault(random: &mut Random, octets: &mut [u8], form: &Layout, groups: &Groups, unlisted: u16, nonzero: u8) -> Option<&'static str> {
     let (committed, commit) = (octets[at::STATE] == 1, commit_len(get16(octets, at::GROUP)));
     let token = usize::from(get16(octets, at::TOKEN_LEN));
-    match random.below(11) {
+    match random.below(10) {
         0 => {
             octets[at::STATE] = random.within(3, 255) as u8;
             Some("run state, above 2")
@@ -168,52 +211,48 @@ fn run_fault(random: &mut Random, octets: &mut [u8], form: &Layout, groups: &Gro
             octets[at::STATE] = 3 - octets[at::STATE];
             Some("run state, the other")
         }
-        2 => {
-            octets[at::SYNC] = random.within(usize::from(HIGHEST_SYNC) + 1, 255) as u8;
-            Some("Sync, above 6")
-        }
-        3 if committed => {
+        2 if committed => {
             octets[at::REJECTED] |= 1 << groups.place(get16(octets, at::GROUP));
             Some("rejected, the run's own")
         }
-        3 => {
+        2 => {
             octets[at::REJECTED] = nonzero;
             Some("rejected in Confirmed")
         }
-        4 => {
+        3 => {
             octets[at::REJECTED] |= 1 << random.within(usize::from(groups.count), 7);
             Some("rejected, past the list")
         }
-        5 => {
+        4 => {
             let sc = get16(octets, at::SC);
             put16(octets, at::SC, *random.pick(&[sc + 1, sc + 256, sc.wrapping_sub(1)]));
             Some("Sc")
         }
-        6 => {
+        5 => {
             put16(octets, at::GROUP, unlisted);
             Some("run's group")
         }
-        7 => {
+        6 => {
             put16(octets, at::TOKEN_LEN, *random.pick(&[257, 512, 65535]));
             Some("token length, above 256")
         }
-        8 if token < TOKEN => {
+        7 if token < TOKEN => {
             octets[random.within(form.token + token, form.link - 1)] = nonzero;
             Some("past the token")
         }
-        9 if commit < form.commit => past_commit(random, octets, form, at::OWN, commit, nonzero, "past the own commit"),
-        10 if committed => {
+        8 if commit < form.commit => past_commit(random, octets, form, at::OWN, commit, nonzero, "past the own commit"),
+        9 if committed => {
             octets[random.within(form.peer, form.token - 1)] = nonzero;
             Some("peer commit in Committed")
         }
-        10 if commit < form.commit => past_commit(random, octets, form, form.peer, commit, nonzero, "past the peer commit"),
+        9 if commit < form.commit => past_commit(random, octets, form, form.peer, commit, nonzero, "past the peer commit"),
         _ => None,
     }
 }
 
 fn link_fault(random: &mut Random, octets: &mut [u8], form: &Layout, unlisted: u16, nonzero: u8) -> Option<&'static str> {
     let commit = commit_len(get16(octets, form.link_group));
-    match random.below(7) {
+    match random.below(6) {
         0 => {
             octets[form.link] = random.within(2, 255) as u8;
             Some("link flag, above 1")
@@ -227,14 +266,10 @@ fn link_fault(random: &mut Random, octets: &mut [u8], form: &Layout, unlisted: u
             Some("mark, above 1")
         }
         3 => {
-            octets[form.link_sync] = random.within(usize::from(HIGHEST_SYNC) + 1, 255) as u8;
-            Some("link's Sync, above 6")
-        }
-        4 => {
             octets[form.link_pad] = nonzero;
             Some("the zero octet behind the link's Sync")
         }
-        5 => {
+        4 => {
             put16(octets, form.link_group, unlisted);
             Some("link's group")
         }

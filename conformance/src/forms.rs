@@ -3,7 +3,7 @@
 use crate::plain::form::{self, Form, COMMIT};
 use crate::plain::octets::{get16, get32, Address};
 use crate::plain::peer::{at, At, State};
-use crate::plain::table::{self, Groups, Settings, HEADER};
+use crate::plain::table::{self, Groups, Pace, Settings, HEADER, PERIOD_AT, SYNC_LIMIT_AT};
 
 /// A commit as it is stored, with the zeros of the wide form: so those of the two forms compare with filling zeros aside.
 pub type Commit = [u8; COMMIT];
@@ -162,6 +162,11 @@ pub fn groups_of(table: &[u8]) -> Groups {
     Groups::in_header(table.first_chunk().expect("a header"))
 }
 
+/// How the runs of a table repeat, if its header's two fields are right.
+pub fn pace_of(table: &[u8]) -> Option<Pace> {
+    Pace::of(get16(table, PERIOD_AT), table[SYNC_LIMIT_AT])
+}
+
 impl Seen<'_> {
     pub fn in_use(&self) -> bool {
         self.octets[at::IN_USE] != 0
@@ -214,6 +219,10 @@ impl Seen<'_> {
 
     pub fn superseded(&self) -> bool {
         self.octets[self.form.superseded] != 0
+    }
+
+    pub fn link_sync(&self) -> u8 {
+        self.octets[self.form.link_sync]
     }
 
     pub fn link_group(&self) -> u16 {

@@ -2,7 +2,7 @@
 
 use std::collections::{BTreeMap, BTreeSet};
 
-use crate::forms::{filled, groups_of, records, Commit, Layout};
+use crate::forms::{filled, groups_of, pace_of, records, Commit, Layout};
 use crate::interface::{Call, ANSWER};
 use crate::plain::frame::{self, Body};
 use crate::plain::octets::{get16, Address};
@@ -22,11 +22,23 @@ impl Pair {
     }
 }
 
-/// A run: whether its pair stands, and its repeats before and after that.
-#[derive(Clone, Copy, Debug, Default)]
+/// A run: the Sync limit of the printer's table when it began, whether its pair stands, and its repeats before and after that.
+#[derive(Clone, Copy, Debug)]
 pub struct Run {
+    pub limit: u8,
     pub stands: bool,
     pub repeats: [u32; 2],
+}
+
+impl Run {
+    fn begun(limit: u8) -> Run {
+        Run { limit, stands: false, repeats: [0; 2] }
+    }
+
+    /// The most repeats before its pair stands, and as many after: "at most limit + 1".
+    fn most(&self) -> u32 {
+        u32::from(self.limit) + 1
+    }
 }
 
 /// A finished link and its mark.
@@ -103,11 +115,8 @@ pub struct History {
     pub peers: BTreeMap<Address, Peering>,
 }
 
-/// The most repeats in a run before its pair stands, and after.
-const REPEATS: u32 = 6;
-
 impl History {
-    /// Takes in a call that was not refused and the table that it left. Answers a breach of the bound of six.
+    /// Takes in a call that was not refused and the table that it left. Answers a breach of the bound on repeats.
     pub fn take(&mut self, call: &Call, answer: &Answer, table: &[u8]) -> Result<(), String> {
         if answer.none_due {
             return Ok(());
@@ -119,6 +128,7 @@ impl History {
         }
         let form = Layout::of(table).ok_or("a table of no form")?;
         let groups = groups_of(table);
+        let limit = pace_of(table).ok_or("a table without a right pace")?.sync_limit;
         let peer = self.peers.entry(answer.address).or_default();
         // "The commit used afresh is the stock's for the stock group in the answer, if that is not 0."
         let fresh = match call {
@@ -138,16 +148,18 @@ impl History {
             if !answer.frames.is_empty() && fresh.is_none() && !forms {
                 let repeats = &mut run.repeats[usize::from(run.stands)];
                 *repeats += 1;
-                if *repeats > REPEATS {
+                if *repeats > run.most() {
+                    let pair = if run.stands { "standing" } else { "not standing yet" };
                     return Err(format!(
-                        "{repeats} repeats in a run, its pair {}",
-                        if run.stands { "standing" } else { "not standing yet" }
+                        "(d) a repeat past {} in a run that began with Sync limit {}, its pair {pair}",
+                        run.most(),
+                        run.limit
                     ));
                 }
             }
         }
         match call {
-            Call::Initiate { .. } => peer.run = Some(Run::default()),
+            Call::Initiate { .. } => peer.run = Some(Run::begun(limit)),
             Call::Kill { .. } => (peer.run, peer.link) = (None, None),
             _ => {}
         }
@@ -157,7 +169,7 @@ impl History {
             peer.last_pair = Some(pair);
             peer.formed.insert(pair);
             // "or with a pair formed without a run"
-            peer.run.get_or_insert_default().stands = true;
+            peer.run.get_or_insert(Run::begun(limit)).stands = true;
             // "Its mark is clear until a pair is formed again."
             if let Some(link) = &mut peer.link {
                 link.marked = true;

@@ -1,7 +1,7 @@
 //! Inputs at random: tables of either form, sound and with a fault, frames of every shape, calls with right and damaged arguments.
 //! What they are made from is drawn from a small pool, so that equal commits, known peers and near deadlines are common.
 
-use crate::forms::{records, Commit, Layout, Seen, FORMS};
+use crate::forms::{pace_of, records, Commit, Layout, Seen, FORMS};
 use crate::interface::Call;
 use crate::plain::form::{COMMIT, SLOTS};
 use crate::plain::frame::{
@@ -250,15 +250,17 @@ impl Pool {
     pub fn initialize(&self, random: &mut Random) -> Call {
         let threshold = *random.pick(&[0, 1, 2, 5, HIGHEST_THRESHOLD]);
         let mut own = self.own;
-        let mut settings = Settings { groups: self.groups, threshold }.octets();
+        let mut settings = Settings { groups: self.groups, threshold, period: period(random), sync_limit: sync_limit(random) }.octets();
         if self.damaged(random) {
-            match random.below(7) {
+            match random.below(9) {
                 0 => own = [0; 6],
                 1 => own[0] |= 1,
                 2 => settings[0] = *random.pick(&[0, 1, 2, 3, 4, 255]),
                 3 => put16(&mut settings, *random.pick(&[2, 4, 6]), *random.pick(&[0, 18, 19, 20, 21, 22, 277])),
                 4 => put16(&mut settings, 8, *random.pick(&[64, 65, 256, 320, 65535])),
-                5 => settings[*random.pick(&[1, 10, 11, 12, 13, 14, 15])] = random.octet(),
+                5 => settings[*random.pick(&[1, 13, 14, 15])] = random.octet(),
+                6 => put16(&mut settings, 10, *random.pick(&WRONG_PERIODS)),
+                7 => settings[12] = *random.pick(&WRONG_SYNC_LIMITS),
                 _ => settings = random.array(),
             }
         }
@@ -316,13 +318,15 @@ impl Pool {
 
     /// A table of the form, with anything in it that the form allows.
     pub fn sound_table(&self, random: &mut Random, slots: usize) -> Vec<u8> {
-        let mut table = self.form.fresh_table(slots, &self.own, &Settings { groups: self.groups, threshold: 0 });
+        let settings = Settings { groups: self.groups, threshold: 0, period: period(random), sync_limit: sync_limit(random) };
+        let mut table = self.form.fresh_table(slots, &self.own, &settings);
+        let highest_sync = pace_of(&table).expect("a right pace").highest_sync();
         let filled = *random.pick(&[0, 30, 60, 90, 100]);
         let mut addresses = self.addresses.clone();
         for octets in table[HEADER..].chunks_exact_mut(self.form.record) {
             if random.percent(filled) && !addresses.is_empty() {
                 let address = addresses.swap_remove(random.below(addresses.len()));
-                self.sound_record(random, octets, &address);
+                self.sound_record(random, octets, &address, highest_sync);
             }
         }
         let (in_use, open) = counts(&table);
@@ -334,21 +338,21 @@ impl Pool {
         table
     }
 
-    fn sound_record(&self, random: &mut Random, octets: &mut [u8], address: &Address) {
+    fn sound_record(&self, random: &mut Random, octets: &mut [u8], address: &Address, highest_sync: u8) {
         octets[at::IN_USE] = 1;
         octets[at::ADDRESS..at::STATE].copy_from_slice(address);
         let (state, link) = *random.pick(&[(0, true), (1, false), (2, false), (1, true), (2, true)]);
         if state != 0 {
-            self.sound_run(random, octets, state);
+            self.sound_run(random, octets, state, highest_sync);
         }
         if link {
-            self.sound_link(random, octets);
+            self.sound_link(random, octets, highest_sync);
         }
     }
 
-    fn sound_run(&self, random: &mut Random, octets: &mut [u8], state: u8) {
+    fn sound_run(&self, random: &mut Random, octets: &mut [u8], state: u8, highest_sync: u8) {
         let (form, group) = (self.form, self.listed(random));
-        let sync = *random.pick(&[0, 1, 4, 5, 6]);
+        let sync = sync(random, highest_sync);
         octets[at::STATE] = state;
         octets[at::SYNC] = sync;
         put16(octets, at::GROUP, group);
@@ -366,11 +370,11 @@ impl Pool {
         }
     }
 
-    fn sound_link(&self, random: &mut Random, octets: &mut [u8]) {
+    fn sound_link(&self, random: &mut Random, octets: &mut [u8], highest_sync: u8) {
         let (form, group) = (self.form, self.listed(random));
         octets[form.link] = 1;
         octets[form.superseded] = random.below(2) as u8;
-        octets[form.link_sync] = *random.pick(&[0, 1, 4, 5, 6]);
+        octets[form.link_sync] = sync(random, highest_sync);
         put16(octets, form.link_group, group);
         put16(octets, form.rc, *random.pick(&[0, 1, 2, 255, 256, 65534, 65535]));
         let t1 = self.time.wrapping_add(random.below(3000) as u32).wrapping_add(*random.pick(&[0, 86_400_000]));
@@ -393,6 +397,29 @@ pub fn slots(random: &mut Random, form: &Layout) -> usize {
         38 => random.within(13, form.slots),
         _ => form.slots,
     }
+}
+
+/// A first period as settings and header have it: none, the ends, the factory's, or any between.
+pub fn period(random: &mut Random) -> u16 {
+    let any = random.within(10, 1000) as u16;
+    *random.pick(&[0, 0, 10, Settings::PERIOD, 1000, any, any])
+}
+
+/// A Sync limit as they have it.
+pub fn sync_limit(random: &mut Random) -> u8 {
+    let any = random.within(1, 10) as u8;
+    *random.pick(&[0, 0, 1, Settings::SYNC_LIMIT, 10, any, any])
+}
+
+/// First periods that are none: below 10, above 1,000, and some of which one octet alone, or the two the other way round, would be right.
+pub const WRONG_PERIODS: [u16; 10] = [1, 5, 9, 1001, 1024, 1256, 10 << 8, 40 << 8, 40 + (1 << 15), 65535];
+
+/// Sync limits that are none.
+pub const WRONG_SYNC_LIMITS: [u8; 6] = [11, 12, 64, 128, 128 + 5, 255];
+
+/// A Sync that is stored: none, one, and those at the limit.
+fn sync(random: &mut Random, highest: u8) -> u8 {
+    *random.pick(&[0, 1, highest.saturating_sub(2), highest - 1, highest])
 }
 
 /// Fresh commits of this form in parts as the other form has them.

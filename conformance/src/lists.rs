@@ -1,19 +1,20 @@
 //! Long lists of calls at two printers, with an air that loses, repeats and reorders frames, and demand 3's checks on them.
 //!
-//! A list begins with a fresh table at each printer, of either form in any mix; a further set up makes a wide one.
+//! A list begins with a fresh table at each printer, of either form in any mix; a further set up makes a wide one. First period and Sync
+//! limit are each printer's own, and each set up draws them anew.
 //!
 //! A list is honest if it keeps demand 3's premises: no commit is used twice, from the other printer comes only what it sent to
 //! this one, and a Confirm from it that meets a pair gets verdict 1 only if the other made it over that same pair. Then (b) and
 //! (c) are checked; (a) and (d) are checked on every list.
 
-use crate::forms::{groups_of, records, Layout, Seen, ALL, FORMS, LISTS, NARROW, WIDE};
+use crate::forms::{groups_of, pace_of, records, Layout, Seen, ALL, FORMS, LISTS, NARROW, WIDE};
 use crate::history::{Answer, History, Pair, Sent};
-use crate::inputs::{slots, Pool};
+use crate::inputs::{period, slots, sync_limit, Pool};
 use crate::interface::{engines, Call, Counts, Lent};
 use crate::plain::frame::{self, commit_len, Body, COMMIT as COMMIT_FRAME, CONFIRM, SUCCESS, TOKEN_REQUIRED, VALUE};
 use crate::plain::octets::{get16, Address};
 use crate::plain::rules::LINK_COUNTER;
-use crate::plain::table::{Groups, Settings};
+use crate::plain::table::{Groups, Pace, Settings};
 use crate::random::Random;
 use crate::together::{Fault, Known, Together};
 use crate::trace::{call_line, expected_lines, hex, shorten, table_lines};
@@ -40,8 +41,10 @@ pub struct Tally {
     pub agreed: u64,
     /// Times that two finished links with each other came to differ, at least one of them marked.
     pub parted: u64,
-    /// The most repeats in a run, before its pair stands and after.
-    pub repeats: [u32; 2],
+    /// Runs accepted while the two printers were set to another period or another Sync limit.
+    pub accepted_unlike: u64,
+    /// The most repeats in a run with Sync limit 1, 2 and so on to 10: before its pair stands, and after.
+    pub repeats: [[u32; 2]; 10],
 }
 
 impl Tally {
@@ -58,16 +61,17 @@ impl Tally {
         let ([narrow, mixed, wide], [in_19, in_20, in_21]) = (self.begun, self.accepted_in);
         println!("    begun with two narrow tables {narrow} times, with one of each form {mixed}, with two wide ones {wide}");
         println!("    links accepted in group 19: {in_19}, 20: {in_20}, 21: {in_21}");
+        println!("    {} of them while the two printers had another period or another Sync limit", self.accepted_unlike);
         println!("    (a) the table's links were what the answers said, after each call");
         println!(
             "    (b) both links clear {} times, always the same pair; {} times two links parted, at least one marked",
             self.agreed, self.parted
         );
         println!("    (c) for each link the other had formed the pair");
-        println!(
-            "    (d) at most {} repeats before the pair stood, {} after; Sync counted them, after each call",
-            self.repeats[0], self.repeats[1]
-        );
+        let most = |(place, [before, after]): (usize, &[u32; 2])| format!("{}: {before}, {after}", place + 1);
+        let most: Vec<String> = self.repeats.iter().enumerate().map(most).collect();
+        println!("    (d) the most repeats before a run's pair stood, and after, by the run's Sync limit: {}", most.join("; "));
+        println!("        each at most the limit + 1; Sync counted them, after each call");
     }
 }
 
@@ -105,6 +109,10 @@ impl Printer {
 
     fn form(&self) -> &'static Layout {
         Layout::of(self.together.table()).expect("each call left a table of its form")
+    }
+
+    fn pace(&self) -> Pace {
+        pace_of(self.together.table()).expect("each call left a table of its form")
     }
 
     /// A buffer becomes the table.
@@ -220,7 +228,8 @@ impl World<'_> {
     /// A number of slots and settings with these groups.
     fn chosen(&mut self, form: &Layout, groups: Groups) -> (usize, Settings) {
         let slots = if self.random.percent(70) { self.random.within(1, 2) } else { slots(self.random, form).min(8) };
-        (slots, Settings { groups, threshold: *self.random.pick(&[5, 5, 5, 1, 0]) })
+        let threshold = *self.random.pick(&[5, 5, 5, 1, 0]);
+        (slots, Settings { groups, threshold, period: period(self.random), sync_limit: sync_limit(self.random) })
     }
 
     /// A fresh table of the narrow form, as set up made it before: a list may begin with one.
@@ -230,8 +239,8 @@ impl World<'_> {
         self.printers[who].set(&table, Known::Sound);
     }
 
-    /// Set up with a buffer of its own: another number of slots, other groups and another threshold, the same own address. What was
-    /// narrow is wide from then on.
+    /// Set up with a buffer of its own: another number of slots, other groups, another threshold, period and Sync limit, the same own
+    /// address. What was narrow is wide from then on.
     fn set_up(&mut self, who: usize, groups: Groups) -> Result<(), Fault> {
         let (slots, settings) = self.chosen(&WIDE, groups);
         let buffer = vec![self.random.octet(); WIDE.length(slots)];
@@ -445,11 +454,13 @@ impl World<'_> {
         let after = self.printers[who].history.peers.get(&answer.address);
         self.tally.pairs += u64::from(after.and_then(|peer| peer.last_pair) != before);
         if let Some(run) = after.and_then(|peer| peer.run) {
-            self.tally.repeats = [0, 1].map(|place| self.tally.repeats[place].max(run.repeats[place]));
+            let most = &mut self.tally.repeats[usize::from(run.limit) - 1];
+            *most = [0, 1].map(|place| most[place].max(run.repeats[place]));
         }
         match answer.event {
             1 => {
                 self.tally.accepted += 1;
+                self.tally.accepted_unlike += u64::from(self.printers[0].pace() != self.printers[1].pace());
                 let group = after.and_then(|peer| peer.link).map_or(19, |link| link.pair.group);
                 self.tally.accepted_in[ALL.place(group)] += 1;
             }

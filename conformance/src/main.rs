@@ -9,7 +9,10 @@ const USAGE: &str = "usage: conformance replay [TRACE…]
        conformance agreement [CALLS [SEED]]
        conformance delay [there=MS] [back=MS] [starts=a|b|both] [later=MS] [chip=MS] [answer=MS] [asks=MS] [token=a|b|both]
                          [requests=all|new] [password=same|other] [a=GROUPS] [b=GROUPS] [form=wide|narrow|mixed]
+                         [period=MS] [aperiod=MS] [bperiod=MS] [limit=N] [alimit=N] [blimit=N]
+       conformance delay most [the same words]
        conformance delay sweep [MOST]
+       conformance delay settings [every]
        conformance benchmark";
 
 /// Calls that the differential and demand 3's lists make unless told otherwise.

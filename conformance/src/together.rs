@@ -4,6 +4,7 @@ use crate::forms::records;
 use crate::history::Answer;
 use crate::interface::{engines, Call, Counts, Engine, Lent};
 use crate::plain::frame::CONFIRM_LEN;
+use crate::plain::table::{HEADER, PERIOD_AT, SYNC_LIMIT_AT};
 use crate::report::{difference, Outcome};
 use crate::trace::{call_line, expected_lines, shorten, table_lines};
 
@@ -59,6 +60,19 @@ fn moved_deadline(before: &[u8], after: &[u8], answer: &Answer) -> Option<String
         }
     }
     None
+}
+
+/// "Set up stores what it is given", a zero as a zero; no other call writes the number of slots, the form or the settings. A breach of
+/// that, in words.
+fn unlike_given(call: &Call, before: &[u8], table: &[u8]) -> Option<String> {
+    let stored = |table: &[u8]| [&table[..2], &table[6..12], &table[PERIOD_AT..HEADER]].concat();
+    match call {
+        Call::Initialize { settings, .. } => {
+            let same = table[PERIOD_AT..][..2] == settings[10..12] && table[SYNC_LIMIT_AT] == settings[12];
+            (!same).then(|| "  set up stored another first period or Sync limit than it was given".into())
+        }
+        _ => (stored(before) != stored(table)).then(|| "  a field of the header changed that only set up writes".into()),
+    }
 }
 
 /// The start of a status 0 Confirm, up to its counter.
@@ -183,8 +197,9 @@ impl Together {
             if allowed != *after {
                 return Some("  an octet was written that is not of the answer".into());
             }
-            if call.may_change() && !initialize {
-                return moved_deadline(&self.before, table, &Answer::read(&after.answer));
+            if call.may_change() {
+                let moved = || moved_deadline(&self.before, table, &Answer::read(&after.answer)).filter(|_| !initialize);
+                return unlike_given(call, &self.before, table).or_else(moved);
             }
         }
         None

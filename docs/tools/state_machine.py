@@ -35,25 +35,25 @@ RULES = {
         "anything else: drop",
     ],
     "Confirmed": [
-        "Commit of status 0: Sync above 5, give up; another group, drop; else Sync + 1, Sc + 1, send Commit and Confirm, set t0",
+        "Commit of status 0: Sync above the limit, give up; another group, drop; else Sync + 1, Sc + 1, send Commit and Confirm, set t0",
         "Confirm of status 0: verdict 0, drop; else event 1 → finished link, Sync carried over, Rc its counter, mark 0",
         "t0: repeat, with Sc + 1 and a new Confirm",
         "anything else: drop",
     ],
     "Link, no run: a Confirm": [
         "status nonzero: drop",
-        "its Sync above 5: the link ends, event 3",
+        "its Sync above the limit: the link ends, event 3",
         "counter not above Rc, or verdict 0: drop",
         "else Rc is the counter, and unless that is 65,535: Sync + 1, send Confirm 65,535",
         "t1 (24 hours after event 1), beside a run too: the link ends, event 3",
         "a Confirm with neither run nor link: drop",
     ],
     "Acts": [
-        "repeat: Sync above 5, give up; else Sync + 1, send, set t0",
+        "repeat: Sync above the limit, give up; else Sync + 1, send, set t0",
         "give up: the run ends, event 2",
         "drop: send nothing, change nothing",
         "form: the frame's group, its commit stored, Sync 0, Sc 1, set t0; a link beside it gets its mark",
-        "set t0: now + 40 ms × 2^Sync",
+        "set t0: now + period × 2^Sync (from the factory: period 40 ms, limit 5)",
         "kill, set up: run and link end",
     ],
 }
@@ -71,8 +71,8 @@ WIDTH, HEIGHT = 170, 62
 EDGES = [
     ("M 222 219 L 474 118", (352, 182, "start", ["start:", "send Commit"])),
     ("M 222 281 L 474 382", (352, 311, "start", ["a valid Commit: form,", "send Commit, Confirm 1"])),
-    ("M 500 74 C 440 20, 150 20, 140 217", (150, 62, "end", ["Sync above 5,", "or no group left:", "event 2"])),
-    ("M 500 426 C 440 480, 150 480, 140 283", (150, 440, "end", ["Sync above 5:", "event 2"])),
+    ("M 500 74 C 440 20, 150 20, 140 217", (150, 45, "end", ["Sync above", "the limit, or", "no group left:", "event 2"])),
+    ("M 500 426 C 440 480, 150 480, 140 283", (150, 440, "end", ["Sync above", "the limit:", "event 2"])),
     ("M 560 136 L 560 362", (572, 238, "start", ["a valid Commit: form,", "send Confirm 1; after a change", "of group Commit, Confirm 1"])),
     ("M 646 92 C 710 62, 710 148, 646 118", (698, 86, "start", ["t0, a Confirm: Commit again", "76: Commit with the token", "77: Commit in the next group"])),
     ("M 534 427 C 504 487, 616 487, 586 427", (628, 458, "start", ["t0: Confirm, Sc + 1", "a Commit: Commit and Confirm, Sc + 1"])),
@@ -109,8 +109,8 @@ def diagram():
         out.append(f'<path class="edge" d="{path}"/>')
         out += [text(x, y + 17 * at, line, "label", anchor) for at, line in enumerate(lines) if line]
     out.append(text(656, 412, "the run is over", "label", "start"))
-    out.append(text(1094, 414, "at Sync above 5:", "label", "start"))
-    out.append(text(1094, 431, "event 3", "label", "start"))
+    out.append(text(1094, 414, "at Sync above", "label", "start"))
+    out.append(text(1094, 431, "the limit: event 3", "label", "start"))
     out.append('<circle cx="1196" cy="395" r="6" fill="#2f5d8a"/>')
     for x, y, name, below in STATES.values():
         out.append(f'<rect class="state" x="{x - WIDTH / 2}" y="{y - HEIGHT / 2}" width="{WIDTH}" height="{HEIGHT}" rx="9"/>')

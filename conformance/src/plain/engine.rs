@@ -103,7 +103,7 @@ pub fn receive<const R: usize>(
 
 /// "The clock call serves the due record with the lowest slot number, t0 before t1, or says none is due": 2.
 pub fn expire<const R: usize>(table: &mut [u8], now: u32) -> Result<Answer, Refusal> {
-    table::sound::<R>(table).ok_or(Refusal::Table)?;
+    let header = table::sound::<R>(table).ok_or(Refusal::Table)?;
     let t0_due = |peer: &Peer<&[u8; R]>| peer.has_run() && rules::due(now, peer.t0());
     let t1_due = |peer: &Peer<&[u8; R]>| peer.has_link() && rules::due(now, peer.t1());
     let Some(slot) = slots::<R>(table).iter().position(|octets| t0_due(&Peer(octets)) || t1_due(&Peer(octets))) else {
@@ -111,7 +111,8 @@ pub fn expire<const R: usize>(table: &mut [u8], now: u32) -> Result<Answer, Refu
     };
     let peer = Peer(&slots::<R>(table)[slot]);
     let (address, t0) = (*peer.address(), t0_due(&peer));
-    let step = at_slot::<R, _>(table, slot, &address, |peer| if t0 { rules::expire_t0(peer, now) } else { rules::expire_t1(peer) });
+    let turn = turn(&header, &address, now, &[]);
+    let step = at_slot::<R, _>(table, slot, &address, |peer| if t0 { rules::expire_t0(peer, &turn) } else { rules::expire_t1(peer) });
     Ok(Answer::Step(step, address))
 }
 
@@ -178,6 +179,7 @@ fn admit<const R: usize>(table: &[u8], address: &Address) -> Result<Header, Refu
 fn turn<'a>(header: &Header, address: &Address, now: u32, fresh: &'a [u8]) -> Turn<'a> {
     Turn {
         now,
+        pace: header.pace,
         groups: header.groups,
         higher: header.own > pack(address),
         crowded: header.open >= header.threshold,

@@ -5,7 +5,7 @@ use core::ops::Deref;
 use super::form::{Form, NARROW, WIDE};
 use super::frame::{commit_len, scalar_len};
 use super::octets::{all_zero, get16, get32, put16, put32, Address};
-use super::table::{Groups, Settings, TOKEN};
+use super::table::{Header, TOKEN};
 
 /// Where the fields of a record stand, up to its first commit: the same in both forms.
 pub mod at {
@@ -40,9 +40,6 @@ impl<const R: usize> At<R> {
 }
 
 const _: () = assert!(At::<NARROW>::END == NARROW && At::<WIDE>::END == WIDE);
-
-/// The highest Sync that is stored.
-pub const HIGHEST_SYNC: u8 = Settings::SYNC_LIMIT + 1;
 
 /// The state of a run.
 #[derive(Clone, Copy, Debug, PartialEq)]
@@ -135,15 +132,15 @@ impl<const R: usize, T: Deref<Target = [u8; R]>> Peer<T> {
     }
 
     /// The octets of the run as the form of the table has them.
-    pub fn run_sound(&self, groups: &Groups) -> bool {
-        let octets = &*self.0;
+    pub fn run_sound(&self, header: &Header) -> bool {
+        let (octets, groups) = (&*self.0, &header.groups);
         let state = octets[at::STATE];
         if state == 0 {
             return all_zero(&octets[at::STATE..At::<R>::LINK]);
         }
         let (group, sync, rejected, sc) = (self.group(), self.sync(), self.rejected(), self.sc());
         let token = usize::from(get16(octets, at::TOKEN_LEN));
-        if state > 2 || sync > HIGHEST_SYNC || !groups.lists(group) || token > TOKEN {
+        if state > 2 || sync > header.pace.highest_sync() || !groups.lists(group) || token > TOKEN {
             return false;
         }
         let commit = commit_len(group);
@@ -160,7 +157,7 @@ impl<const R: usize, T: Deref<Target = [u8; R]>> Peer<T> {
     }
 
     /// The octets of the link as the form of the table has them.
-    pub fn link_sound(&self, groups: &Groups) -> bool {
+    pub fn link_sound(&self, header: &Header) -> bool {
         let octets = &*self.0;
         if octets[At::<R>::LINK] == 0 {
             return all_zero(&octets[At::<R>::LINK..]);
@@ -168,9 +165,9 @@ impl<const R: usize, T: Deref<Target = [u8; R]>> Peer<T> {
         let group = self.link_group();
         if octets[At::<R>::LINK] > 1
             || octets[At::<R>::SUPERSEDED] > 1
-            || octets[At::<R>::LINK_SYNC] > HIGHEST_SYNC
+            || octets[At::<R>::LINK_SYNC] > header.pace.highest_sync()
             || octets[At::<R>::LINK_PAD] != 0
-            || !groups.lists(group)
+            || !header.groups.lists(group)
         {
             return false;
         }

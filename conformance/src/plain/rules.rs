@@ -3,7 +3,7 @@
 use super::engine::Refusal;
 use super::frame::{Body, COMMIT, CONFIRM, GROUP_REFUSED, SUCCESS, TOKEN_REQUIRED};
 use super::peer::{same_scalar, Peer, State};
-use super::table::{Groups, Settings};
+use super::table::{Groups, Pace};
 
 /// A record that a rule may change.
 pub type Record<'a, const R: usize> = Peer<&'a mut [u8; R]>;
@@ -17,6 +17,7 @@ const LINK_LIFE: u32 = 86_400_000;
 /// What a rule looks at besides the record.
 pub struct Turn<'a> {
     pub now: u32,
+    pub pace: Pace,
     pub groups: Groups,
     /// Whether our own address is above the peer's.
     pub higher: bool,
@@ -95,18 +96,18 @@ impl Step {
     }
 }
 
-/// "Set t0": deadline = now + 40 × 2^Sync, modulo 2^32.
-fn set_t0<const R: usize>(peer: &mut Record<R>, now: u32) {
-    peer.set_t0(now.wrapping_add(Settings::PERIOD << peer.sync()));
+/// "Set t0": deadline = now + period × 2^Sync, modulo 2^32.
+fn set_t0<const R: usize>(peer: &mut Record<R>, turn: &Turn) {
+    peer.set_t0(turn.now.wrapping_add(turn.pace.delay(peer.sync())));
 }
 
-/// "Repeat": if Sync is above 5, give up; else Sync + 1, send, set t0.
-fn retransmit<const R: usize>(peer: &mut Record<R>, now: u32, frame: Frame) -> Step {
-    if peer.sync() > Settings::SYNC_LIMIT {
+/// "Repeat": if Sync is above the limit, give up; else Sync + 1, send, set t0.
+fn retransmit<const R: usize>(peer: &mut Record<R>, turn: &Turn, frame: Frame) -> Step {
+    if peer.sync() > turn.pace.sync_limit {
         return abandon(peer);
     }
     peer.set_sync(peer.sync() + 1);
-    set_t0(peer, now);
+    set_t0(peer, turn);
     Step::send(frame)
 }
 
@@ -123,14 +124,14 @@ fn drop_frame() -> Step {
 
 /// "Form": take the frame's group, store the peer commit, Sync 0, Sc 1, no rejected groups, Confirmed, set t0;
 /// if a link is there, its mark becomes 1.
-fn form_pair<const R: usize>(peer: &mut Record<R>, now: u32, group: u16, commit: &[u8]) {
+fn form_pair<const R: usize>(peer: &mut Record<R>, turn: &Turn, group: u16, commit: &[u8]) {
     peer.set_group(group);
     peer.set_peer_commit(commit);
     peer.set_sync(0);
     peer.set_sc(1);
     peer.set_rejected(0);
     peer.set_state(State::Confirmed);
-    set_t0(peer, now);
+    set_t0(peer, turn);
     if peer.has_link() {
         peer.supersede();
     }
@@ -139,7 +140,7 @@ fn form_pair<const R: usize>(peer: &mut Record<R>, now: u32, group: u16, commit:
 /// "Fresh commit, Form, send Commit and Confirm."
 fn answer_commit<const R: usize>(peer: &mut Record<R>, turn: &Turn, group: u16, commit: &[u8]) -> Step {
     peer.set_own_commit(turn.groups.fresh_commit::<R>(turn.fresh, group));
-    form_pair(peer, turn.now, group, commit);
+    form_pair(peer, turn, group, commit);
     Step::send_both(Frame::commit(group), Frame::confirm(1)).with_fresh(group)
 }
 
@@ -149,7 +150,7 @@ pub fn initiate<const R: usize>(peer: &mut Record<R>, turn: &Turn) -> Step {
     peer.set_state(State::Committed);
     peer.set_group(group);
     peer.set_own_commit(turn.groups.fresh_commit::<R>(turn.fresh, group));
-    set_t0(peer, turn.now);
+    set_t0(peer, turn);
     Step::send(Frame::commit(group)).with_fresh(group)
 }
 
@@ -189,7 +190,7 @@ fn token_request_in_committed<const R: usize>(peer: &mut Record<R>, turn: &Turn,
     if group != peer.group() {
         return drop_frame();
     }
-    let step = retransmit_commit(peer, turn.now);
+    let step = retransmit_commit(peer, turn);
     if let Event::None = step.event {
         peer.set_token(token);
     }
@@ -210,13 +211,13 @@ fn group_refusal_in_committed<const R: usize>(peer: &mut Record<R>, turn: &Turn,
     peer.set_rejected(rejected);
     peer.set_group(next);
     peer.set_own_commit(turn.groups.fresh_commit::<R>(turn.fresh, next));
-    set_t0(peer, turn.now);
+    set_t0(peer, turn);
     Step::send(Frame::commit(next)).with_fresh(next)
 }
 
 /// Commit in Committed, status 0: "unsupported group, Repeat sending 77."
 fn unsupported_commit_in_committed<const R: usize>(peer: &mut Record<R>, turn: &Turn, group: u16) -> Step {
-    retransmit(peer, turn.now, Frame::group_refusal(group))
+    retransmit(peer, turn, Frame::group_refusal(group))
 }
 
 /// Commit in Committed, status 0: "Supported but not ours: higher own address, Repeat the Commit; lower: verdict 0 or equal
@@ -225,7 +226,7 @@ fn unsupported_commit_in_committed<const R: usize>(peer: &mut Record<R>, turn: &
 fn commit_in_committed<const R: usize>(peer: &mut Record<R>, turn: &Turn, group: u16, commit: &[u8]) -> Step {
     let ours = group == peer.group();
     if !ours && turn.higher {
-        return retransmit_commit(peer, turn.now);
+        return retransmit_commit(peer, turn);
     }
     let reflected = commit == if ours { peer.own_commit() } else { turn.groups.fresh_commit::<R>(turn.fresh, group) };
     if reflected || !turn.verified {
@@ -234,25 +235,25 @@ fn commit_in_committed<const R: usize>(peer: &mut Record<R>, turn: &Turn, group:
     if !ours {
         return answer_commit(peer, turn, group, commit);
     }
-    form_pair(peer, turn.now, group, commit);
+    form_pair(peer, turn, group, commit);
     Step::send(Frame::confirm(1))
 }
 
 /// "Repeat the Commit."
-fn retransmit_commit<const R: usize>(peer: &mut Record<R>, now: u32) -> Step {
+fn retransmit_commit<const R: usize>(peer: &mut Record<R>, turn: &Turn) -> Step {
     let group = peer.group();
-    retransmit(peer, now, Frame::commit(group))
+    retransmit(peer, turn, Frame::commit(group))
 }
 
 /// "Confirm in Committed: nonzero status, drop; else Repeat the Commit."
 fn confirm_in_committed<const R: usize>(peer: &mut Record<R>, turn: &Turn) -> Step {
-    retransmit_commit(peer, turn.now)
+    retransmit_commit(peer, turn)
 }
 
-/// "Confirmed. Commit: status nonzero, drop; Sync above 5, give up; group differs, drop; else Sync + 1, Sc + 1, send Commit
+/// "Confirmed. Commit: status nonzero, drop; Sync above the limit, give up; group differs, drop; else Sync + 1, Sc + 1, send Commit
 /// and Confirm, set t0; the stored peer commit stays."
 fn commit_in_confirmed<const R: usize>(peer: &mut Record<R>, turn: &Turn, group: u16) -> Step {
-    if peer.sync() > Settings::SYNC_LIMIT {
+    if peer.sync() > turn.pace.sync_limit {
         return abandon(peer);
     }
     if group != peer.group() {
@@ -260,7 +261,7 @@ fn commit_in_confirmed<const R: usize>(peer: &mut Record<R>, turn: &Turn, group:
     }
     peer.set_sync(peer.sync() + 1);
     peer.set_sc(peer.sc() + 1);
-    set_t0(peer, turn.now);
+    set_t0(peer, turn);
     Step::send_both(Frame::commit(group), Frame::confirm(peer.sc()))
 }
 
@@ -275,10 +276,10 @@ fn confirm_in_confirmed<const R: usize>(peer: &mut Record<R>, turn: &Turn, count
     Step::event(Event::Accepted)
 }
 
-/// "Link, no run, Confirm: status nonzero, drop; its Sync above 5, link ends; counter not above Rc, drop; verdict 0, drop;
+/// "Link, no run, Confirm: status nonzero, drop; its Sync above the limit, link ends; counter not above Rc, drop; verdict 0, drop;
 /// else Rc is the counter, and unless that is 65,535, Sync + 1 and a Confirm with counter 65,535."
 fn confirm_at_link<const R: usize>(peer: &mut Record<R>, turn: &Turn, counter: u16) -> Step {
-    if peer.link_sync() > Settings::SYNC_LIMIT {
+    if peer.link_sync() > turn.pace.sync_limit {
         return end_link(peer);
     }
     if counter <= peer.rc() || !turn.verified {
@@ -344,12 +345,12 @@ pub fn due(now: u32, deadline: u32) -> bool {
 }
 
 /// In Committed "t0: Repeat the Commit"; in Confirmed "t0: Repeat with Sc + 1 and a new Confirm".
-pub fn expire_t0<const R: usize>(peer: &mut Record<R>, now: u32) -> Step {
+pub fn expire_t0<const R: usize>(peer: &mut Record<R>, turn: &Turn) -> Step {
     if peer.state() == State::Committed {
-        return retransmit_commit(peer, now);
+        return retransmit_commit(peer, turn);
     }
     let sc = peer.sc() + 1;
-    let step = retransmit(peer, now, Frame::confirm(sc));
+    let step = retransmit(peer, turn, Frame::confirm(sc));
     if peer.has_run() {
         peer.set_sc(sc);
     }

@@ -15,29 +15,36 @@ pub const HEADER: usize = 32;
 const GROUPS_AT: [usize; GROUPS] = [24, 26, 30];
 /// Where the settings have them.
 const SETTINGS_GROUPS_AT: [usize; GROUPS] = [2, 4, 6];
+/// Where the header has the first period and the Sync limit, in both forms.
+pub const PERIOD_AT: usize = 14;
+pub const SYNC_LIMIT_AT: usize = 23;
 
-/// What set up is given.
+/// What set up is given. It stores period and Sync limit as they are given, a zero as a zero.
 pub struct Settings {
     pub groups: Groups,
     pub threshold: u16,
+    pub period: u16,
+    pub sync_limit: u8,
 }
 
 /// "Factory settings belong to the settings type: groups 19 and 20, threshold 5, period 40, Sync limit 5."
 impl Settings {
     pub const THRESHOLD: u16 = 5;
-    pub const PERIOD: u32 = 40;
+    pub const PERIOD: u16 = 40;
     pub const SYNC_LIMIT: u8 = 5;
 
     pub fn factory() -> Settings {
-        Settings { groups: Groups { count: 2, list: [19, 20, 0] }, threshold: Self::THRESHOLD }
+        let groups = Groups { count: 2, list: [19, 20, 0] };
+        Settings { groups, threshold: Self::THRESHOLD, period: Self::PERIOD, sync_limit: Self::SYNC_LIMIT }
     }
 
     /// The settings that 16 octets say, if they are right: those of the form that set up makes.
     pub fn read(octets: &[u8; 16]) -> Option<Settings> {
         let groups = Groups { count: octets[0], list: SETTINGS_GROUPS_AT.map(|at| get16(octets, at)) };
-        let threshold = get16(octets, 8);
-        let zeros = octets[1] == 0 && all_zero(&octets[10..]);
-        (zeros && groups.right::<WIDE>() && threshold <= HIGHEST_THRESHOLD).then_some(Settings { groups, threshold })
+        let settings = Settings { groups, threshold: get16(octets, 8), period: get16(octets, 10), sync_limit: octets[12] };
+        let zeros = octets[1] == 0 && all_zero(&octets[13..]);
+        let paced = Pace::of(settings.period, settings.sync_limit).is_some();
+        (zeros && paced && groups.right::<WIDE>() && settings.threshold <= HIGHEST_THRESHOLD).then_some(settings)
     }
 
     /// The 16 octets that say these settings.
@@ -48,7 +55,51 @@ impl Settings {
             put16(&mut octets, at, group);
         }
         put16(&mut octets, 8, self.threshold);
+        put16(&mut octets, 10, self.period);
+        octets[12] = self.sync_limit;
         octets
+    }
+}
+
+/// How a run repeats: what the stored period and Sync limit come to.
+#[derive(Clone, Copy, PartialEq)]
+pub struct Pace {
+    period: u32,
+    pub sync_limit: u8,
+}
+
+impl Pace {
+    /// The pace that a table or settings say, if both fields are right.
+    pub fn of(period: u16, sync_limit: u8) -> Option<Pace> {
+        Some(Pace { period: effective_period(period)?, sync_limit: effective_sync_limit(sync_limit)? })
+    }
+
+    /// The highest Sync that is stored: "A stored Sync runs from 0 to limit + 1."
+    pub fn highest_sync(&self) -> u8 {
+        self.sync_limit + 1
+    }
+
+    /// Milliseconds from a frame sent to t0: the period × 2^Sync.
+    pub fn delay(&self, sync: u8) -> u32 {
+        self.period << sync
+    }
+}
+
+/// "First period 10 to 1,000 ms. Zero means the factory's."
+fn effective_period(stored: u16) -> Option<u32> {
+    match stored {
+        0 => Some(u32::from(Settings::PERIOD)),
+        10..=1000 => Some(u32::from(stored)),
+        _ => None,
+    }
+}
+
+/// "Sync limit 1 to 10. Zero means the factory's."
+fn effective_sync_limit(stored: u8) -> Option<u8> {
+    match stored {
+        0 => Some(Settings::SYNC_LIMIT),
+        1..=10 => Some(stored),
+        _ => None,
     }
 }
 
@@ -112,6 +163,7 @@ pub struct Header {
     pub groups: Groups,
     pub threshold: u16,
     pub open: u16,
+    pub pace: Pace,
 }
 
 /// What the header says of the size of a record, if there is a header: it alone tells the form.
@@ -148,6 +200,8 @@ pub fn initialize<const R: usize>(table: &mut [u8], slots: usize, own: &Address,
         put16(table, at, group);
     }
     put16(table, 28, settings.threshold);
+    put16(table, PERIOD_AT, settings.period);
+    table[SYNC_LIMIT_AT] = settings.sync_limit;
 }
 
 /// The header, if the table is of its form. One pass.
@@ -172,7 +226,7 @@ pub fn sound<const R: usize>(table: &[u8]) -> Option<Header> {
             return None;
         }
         // "A record in use has a run or a link."
-        if !(peer.has_run() || peer.has_link()) || !peer.run_sound(&header.groups) || !peer.link_sound(&header.groups) {
+        if !(peer.has_run() || peer.has_link()) || !peer.run_sound(&header) || !peer.link_sound(&header) {
             return None;
         }
         addresses[in_use] = address;
@@ -192,15 +246,15 @@ fn sound_header<const R: usize>(head: &[u8; HEADER], slots: usize) -> Option<Hea
     let own = pack(head[16..].first_chunk().unwrap());
     let groups = Groups::in_header(head);
     let threshold = get16(head, 28);
+    let pace = Pace::of(get16(head, PERIOD_AT), head[SYNC_LIMIT_AT])?;
     let right = usize::from(get16(head, 0)) == slots
         && usize::from(get16(head, 6)) == R
         && usize::from(get16(head, 8)) == HEADER
-        && all_zero(&head[10..16])
+        && all_zero(&head[10..PERIOD_AT])
         && individual(own)
         && groups.right::<R>()
-        && head[23] == 0
         && threshold <= HIGHEST_THRESHOLD;
-    right.then_some(Header { own, groups, threshold, open: get16(head, 4) })
+    right.then_some(Header { own, groups, threshold, open: get16(head, 4), pace })
 }
 
 /// The slot of the record with this address, a usable one.
