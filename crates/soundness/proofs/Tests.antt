@@ -85,6 +85,14 @@ and-assoc : (a b c : Bool) → ((a && b) && c) ≡ (a && (b && c))
 and-assoc true b c = refl
 and-assoc false b c = refl
 
+-- the test of a third group behind that of two
+third-too : (j k d i e : Bool) → (((j && k) && d) && (i && e)) ≡ ((j && (k && i)) && (d && e))
+third-too false k d i e = refl
+third-too true false d i e = refl
+third-too true true true i e = refl
+third-too true true false true e = refl
+third-too true true false false e = refl
+
 eqb-sym : (a b : ℕ) → eqb a b ≡ eqb b a
 eqb-sym a b = elim (ℕ-discrete a b) [
   | yes e ↦ eq-eqb a b e ∙ sym (eq-eqb b a (sym e))
@@ -126,14 +134,14 @@ module _ (f : Form) (n : ℕ) (gs : List ℕ) (l : length gs ≡ 3) (h : n ≤ f
       rw (e, p, w) (sym (ap (groupsOk f 1) (sym (three-is gs l)) ∙ groups-one f (getD gs 0 0) (getD gs 1 0) (getD gs 2 0) (omega arith)))
 
   module _ (k : Bool) (q : k ≡ listable W (getD gs 1 0)) where
-    pub groups-is-two : n ≡ 2 → ((j && k) && (not (eqb (getD gs 0 0) (getD gs 1 0)) && eqb (getD gs 2 0) 0)) ≡ groupsOk f n gs
+    pub groups-is-two : n ≡ 2 → (((j && k) && not (eqb (getD gs 0 0) (getD gs 1 0))) && eqb (getD gs 2 0) 0) ≡ groupsOk f n gs
     groups-is-two e =
-        rw (e, p, q, w) (sym (ap (groupsOk f 2) (sym (three-is gs l)) ∙ groups-two f (getD gs 0 0) (getD gs 1 0) (getD gs 2 0) (omega arith)))
+        and-assoc (j && k) (not (eqb (getD gs 0 0) (getD gs 1 0))) (eqb (getD gs 2 0) 0) ∙ rw (e, p, q, w) (sym (ap (groupsOk f 2) (sym (three-is gs l)) ∙ groups-two f (getD gs 0 0) (getD gs 1 0) (getD gs 2 0) (omega arith)))
 
     pub groups-is-three : (i : Bool) → n ≡ 3 → i ≡ listable W (getD gs 2 0)
-        → ((j && (k && i)) && (not (eqb (getD gs 0 0) (getD gs 1 0)) && (not (eqb (getD gs 0 0) (getD gs 2 0)) && not (eqb (getD gs 1 0) (getD gs 2 0))))) ≡ groupsOk f n gs
+        → (((j && k) && not (eqb (getD gs 0 0) (getD gs 1 0))) && (i && (not (eqb (getD gs 0 0) (getD gs 2 0)) && not (eqb (getD gs 1 0) (getD gs 2 0))))) ≡ groupsOk f n gs
     groups-is-three i e r =
-        rw (e, p, q, r, w) (sym (ap (groupsOk f 3) (sym (three-is gs l)) ∙ groups-three f (getD gs 0 0) (getD gs 1 0) (getD gs 2 0) (omega arith)))
+        third-too j k (not (eqb (getD gs 0 0) (getD gs 1 0))) i _ ∙ rw (e, p, q, r, w) (sym (ap (groupsOk f 3) (sym (three-is gs l)) ∙ groups-three f (getD gs 0 0) (getD gs 1 0) (getD gs 2 0) (omega arith)))
 
 pub groups-else : (f : Form) (n : ℕ) (gs : List ℕ) → f .groups ≤ 3 → (n ≡ 1 → ⊥) → (n ≡ 2 → ⊥) → (n ≡ 3 → ⊥) → false ≡ groupsOk f n gs
 groups-else f zero gs h p q r = sym (groups-none f gs)

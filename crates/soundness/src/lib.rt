@@ -74,12 +74,13 @@ pub fn groups_ok(form: Form, n: u8, gs: [u16; 3]) -> bool
         return first & ((b == 0) & (c == 0));
     }
     let second = groups::is_listable(b, w);
+    let both = (first & second) & (a != b);
     if n == 2 {
-        return (first & second) & ((a != b) & (c == 0));
+        return both & (c == 0);
     }
     if n == 3 {
         let third = groups::is_listable(c, w);
-        return (first & (second & third)) & ((a != b) & ((a != c) & (b != c)));
+        return both & (third & ((a != c) & (b != c)));
     }
     false
 }
