@@ -22,7 +22,7 @@ use Rattle.answers.specs.declared.Answer.{Answer}
 use Rattle.answers.specs.Answers.{said}
 use Rattle.calls.specs.Calls.{killStep}
 use Rattle.call_laws.proofs.Good.{limit-of}
-use Rattle.agreement.specs.Calls.{Call, initialize, kill, Entry, AllHanded, none, more, Comes, last, sooner, left, done, isInitialize, tableAfter, mine, tableOf}
+use Rattle.agreement.specs.Calls.{Call, initialize, kill, Entry, AllHanded, none, more, last, sooner, left, done, isInitialize, tableAfter, mine, tableOf}
 use Rattle.agreement.specs.Story.{Story, nothingYet, isStart, sends, usesAfresh, formsPair, told, answered, clears, cleared, isAbout, toldBy, storyAfter, storyOf, groupsIn, limitIn}
 use Rattle.agreement.specs.Statement.{no-link, SetTo}
 use Rattle.agreement.proofs.Rules.{either}
