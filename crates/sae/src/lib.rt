@@ -131,7 +131,7 @@ fn reply(a: Answer, answer: &mut [u8; 28]) -> u32
 // Where the settings' fields lie in their 16 octets, and what is zero in them: one octet behind the count, and the last three.
 const COUNT_AT: usize = 0;
 
-const RESERVED_AT: usize = 1;
+const FIRST_RESERVED_AT: usize = 1;
 
 const FIRST_GROUP_AT: usize = 2;
 
@@ -145,7 +145,7 @@ const PERIOD_AT: usize = 10;
 
 const LIMIT_AT: usize = 12;
 
-const LAST_AT: usize = 13;
+const LAST_RESERVED_AT: usize = 13;
 
 // The settings that 16 octets say.
 fn settings_of(s: [u8; 16]) -> Settings
@@ -171,8 +171,8 @@ fn settings_of(s: [u8; 16]) -> Settings
 fn reserved_zero(s: [u8; 16]) -> bool
     ensures { λ r. ⌜ r ≡ reservedZero s ⌝ }
 {
-    let a = octets::zero_part(&s[..], RESERVED_AT, 1);
-    let b = octets::zero_part(&s[..], LAST_AT, 3);
+    let a = octets::zero_part(&s[..], FIRST_RESERVED_AT, 1);
+    let b = octets::zero_part(&s[..], LAST_RESERVED_AT, 3);
     a & b
 }
 
