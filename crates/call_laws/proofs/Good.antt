@@ -25,7 +25,7 @@ use Rattle.record.specs.declared.Peer.{Peer}
 use Rattle.record.proofs.Laws.{form-width, form-groups}
 use Rattle.record.specs.Layout.{formIn, widthIn, groupsOf, noPeer, decodeHeader, headerOf, limitOf}
 use Rattle.soundness.specs.Soundness.{usable, highSync, commitOk}
-use Rattle.soundness.proofs.Laws.{Groups, SettingsForm, header-form, settings-form, limit-range, header-groups, header-width, header-count, listed-known, groups-length}
+use Rattle.soundness.proofs.Laws.{Groups, SettingsForm, header-form, settings-form, header-limit, header-high, header-groups, header-width, header-count, listed-known, groups-length}
 use Rattle.table.specs.Table.{Table, decodeTable, slot, slots, belongs, finds, lookBy, look, sound, entry, foundEntry}
 use Rattle.table.specs.declared.Entry.{Entry}
 use Rattle.table.specs.declared.Entry.the-variants as entry-is
@@ -76,10 +76,10 @@ module _ (t : List ℕ) (s : sound t ≡ true) where
 
   -- the Sync limit is in its range, and so the highest Sync is in its octet's
   pub limit-of : (1 ≤ limitOf (decodeTable t .header .settings .limit)) × (limitOf (decodeTable t .header .settings .limit) ≤ 10)
-  limit-of = limit-range _ (settings .limit)
+  limit-of = header-limit _ (sound-header t s)
 
   pub high-low : highIn t < 256
-  high-low = omega (arith, limit-of .1)
+  high-low = header-high _ (sound-header t s)
 
   pub sound-lists : Lists (groupsIn t)
   sound-lists =

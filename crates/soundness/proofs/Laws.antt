@@ -26,7 +26,7 @@ use Rattle.record.specs.declared.Counts.{Counts}
 use Rattle.record.specs.declared.Settings.{Settings}
 use Rattle.record.specs.declared.Header.{Header}
 use Rattle.record.proofs.Laws.{ShapeRun, ShapeLink, ShapePeer, zero-run, zero-link, zero-peer, zeros-run, zeros-link, zeros-peer, FormOf, is-narrow, is-wide, is-none, form-of, Served, form-served, form-groups, form-slots}
-use Rattle.soundness.specs.Soundness.{ownOk, usable, allListable, eachOnce, groupsOk, periodOk, limitOk, settingsOk, geometryOk, headerOk, commitOk, tokenOk, rejectedOk, committedOk, confirmedOk, runOk, finishedOk, linkOk, freeOk, inUseOk, peerOk}
+use Rattle.soundness.specs.Soundness.{ownOk, usable, allListable, eachOnce, groupsOk, periodOk, limitOk, settingsOk, geometryOk, headerOk, highSync, commitOk, tokenOk, rejectedOk, committedOk, confirmedOk, runOk, finishedOk, linkOk, freeOk, inUseOk, peerOk}
 
 -- ---- unused parts
 
@@ -298,22 +298,22 @@ pub form-settings : (f : Form) (s : Settings) → SettingsForm f s → settingsO
 unfolding settingsOk
 form-settings f s g = and-both _ _ (g .groups) (and-both _ _ (le-leb _ _ (g .threshold)) (and-both _ _ (g .period) (g .limit)))
 
--- the first period and the Sync limit that entries of this form stand for are in the papers' range
+-- an entry that is 0 or in a range stands for a number of that range, if what 0 stands for is one: so do the first period and the Sync limit
+entry-range : (zeros least most entry : ℕ) → least ≤ zeros → zeros ≤ most → (eqb entry 0 || (leb least entry && leb entry most)) ≡ true
+    → (least ≤ (if eqb entry 0 then zeros else entry)) × ((if eqb entry 0 then zeros else entry) ≤ most)
+entry-range zeros least most entry p q ok = go (eqb entry 0) ok
+  where
+    go : (b : Bool) → (b || (leb least entry && leb entry most)) ≡ true → (least ≤ (if b then zeros else entry)) × ((if b then zeros else entry) ≤ most)
+    go true e = (p, q)
+    go false e = (leb-true _ _ (and-left _ _ e), leb-true _ _ (and-right (leb least entry) _ e))
+
 pub period-range : (entry : ℕ) → periodOk entry ≡ true → (10 ≤ periodOf entry) × (periodOf entry ≤ 1000)
 unfolding periodOk periodOf
-period-range entry ok = go (eqb entry 0) ok
-  where
-    go : (b : Bool) → (b || (leb 10 entry && leb entry 1000)) ≡ true → (10 ≤ (if b then factoryPeriod else entry)) × ((if b then factoryPeriod else entry) ≤ 1000)
-    go true e = (lit≤ tt, lit≤ tt)
-    go false e = (leb-true _ _ (and-left _ _ e), leb-true _ _ (and-right (leb 10 entry) _ e))
+period-range entry ok = entry-range factoryPeriod 10 1000 entry (lit≤ tt) (lit≤ tt) ok
 
 pub limit-range : (entry : ℕ) → limitOk entry ≡ true → (1 ≤ limitOf entry) × (limitOf entry ≤ 10)
 unfolding limitOk limitOf
-limit-range entry ok = go (eqb entry 0) ok
-  where
-    go : (b : Bool) → (b || (leb 1 entry && leb entry 10)) ≡ true → (1 ≤ (if b then factoryLimit else entry)) × ((if b then factoryLimit else entry) ≤ 10)
-    go true e = (lit≤ tt, lit≤ tt)
-    go false e = (leb-true _ _ (and-left _ _ e), leb-true _ _ (and-right (leb 1 entry) _ e))
+limit-range entry ok = entry-range factoryLimit 1 10 entry (lit≤ tt) (lit≤ tt) ok
 
 -- a Sync limit's entry is one comparison
 pub limit-one : (entry : ℕ) → leb entry 10 ≡ limitOk entry
@@ -375,6 +375,13 @@ header-count h ok = omega (arith, header-groups h ok .few, form-groups (h .geome
 
 pub header-slots : (h : Header) → headerOk h ≡ true → h .geometry .slots ≤ 64
 header-slots h ok = omega (arith, header-form h ok .geometry .few, form-slots (h .geometry .size))
+
+-- its Sync limit is in its range, and so the highest Sync is in its octet's
+pub header-limit : (h : Header) → headerOk h ≡ true → (1 ≤ limitOf (h .settings .limit)) × (limitOf (h .settings .limit) ≤ 10)
+header-limit h ok = limit-range _ (settings-form (formIn h) _ (header-form h ok .settings) .limit)
+
+pub header-high : (h : Header) → headerOk h ≡ true → highSync h < 256
+header-high h ok = omega (arith, header-limit h ok .1)
 
 -- a listed group has a length, and its commit has room in the form
 pub header-listed : (h : Header) → headerOk h ≡ true → (g : ℕ) → listed (groupsOf h) g ≡ true → listable (widthIn h) g ≡ true

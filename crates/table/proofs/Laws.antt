@@ -20,10 +20,10 @@ use Rattle.record.specs.declared.Peer.{Peer}
 use Rattle.record.specs.declared.Counts.{Counts}
 use Rattle.record.specs.declared.Header.{Header}
 use Rattle.groups.specs.Groups.{width}
-use Rattle.record.specs.Layout.{widthIn, recordSize, recordAt, groupsOf, limitOf}
+use Rattle.record.specs.Layout.{widthIn, recordSize, recordAt, groupsOf}
 use Rattle.record.proofs.Laws.{record-below}
-use Rattle.soundness.specs.Soundness.{usable, limitOk, headerOk, highSync, peerOk}
-use Rattle.soundness.proofs.Laws.{header-form, settings-form, limit-range, header-groups, header-count, header-slots}
+use Rattle.soundness.specs.Soundness.{usable, headerOk, highSync, peerOk}
+use Rattle.soundness.proofs.Laws.{header-groups, header-high, header-count, header-slots}
 use Rattle.table.specs.Table.{Table, widthOf, decodeTable, slot, slots, inUse, isOpen, belongs, alone, slotsOk, addressesOk, countsOk, sound, usedCount, openCount, countsOf, finds, freeSlot, entry, foundEntry, withPeer, standingOf, Changed, Ready, Whole, Reaches, Reached, Sized, Looked, Enters}
 use Rattle.table.specs.declared.Entrance.{Entrance}
 use Rattle.table.specs.declared.Standing.{Standing}
@@ -40,10 +40,6 @@ counts-true T ok =
     let o : T .header .counts .opened ≡ openCount T = eqb-true _ _ (and-left _ _ k₁) in
     let z : T .header .counts .spare ≡ 0 = eqb-true _ _ (and-right (eqb (T .header .counts .opened) (openCount T)) _ k₁) in
     λ i. record { used = u i; opened = o i; spare = z i }
-
--- the highest Sync is in its octet's range
-high-low : (entry : ℕ) → limitOk entry ≡ true → limitOf entry + 1 < 256
-high-low entry ok = omega (arith, limit-range entry ok .1)
 
 -- what soundness says
 module _ (t : List ℕ) (s : sound t ≡ true) where
@@ -143,7 +139,6 @@ module _ (t : List ℕ) (h : Header) (e : h ≡ decodeTable t .header) where
   pub whole-by : (ok : Bool) (w n : ℕ) → ok ≡ headerOk h → not ok ≡ false → w ≡ widthIn h → n ≡ recordAt w (h .geometry .slots) → length t ≡ n → Whole t h (h .geometry .slots)
   whole-by ok w n p q ew en l =
       let y : headerOk h ≡ true = sym p ∙ not-false ok q in
-      let s = settings-form _ (h .settings) (header-form h y .settings) in
       let g = header-groups h y in
       let c : h .geometry .slots ≡ slots (decodeTable t) = ap (λ (g : Header). g .geometry .slots) e in
       record {
@@ -153,7 +148,7 @@ module _ (t : List ℕ) (h : Header) (e : h ≡ decodeTable t .header) where
         few = header-slots h y;
         some = g .some;
         most = header-count h y;
-        low = high-low _ (s .limit);
+        low = header-high h y;
       }
 
   pub body-by : (ok r : Bool) (w n : ℕ) → 32 ≤ length t → ok ≡ headerOk h → not ok ≡ false → w ≡ widthIn h → n ≡ recordAt w (h .geometry .slots) → length t ≡ n
