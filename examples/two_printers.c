@@ -27,8 +27,8 @@ enum {
     LAST_MS = 30000
 };
 
-/* A printer: its settings, its table, of the form that sae_initialize makes, the fresh commits that it offers, and what its clock shows
- * when the play begins. */
+/* A printer: its settings, its table, of the form that sae_initialize makes, the fresh commits that it offers, what its clock shows when
+ * the play begins, and the number of good links that its front panel shows. */
 struct printer {
     char name;
     uint8_t address[SAE_ADDRESS_LEN];
@@ -37,6 +37,7 @@ struct printer {
     uint8_t table[SAE_TABLE_LEN(SAE_WIDE, SLOTS)];
     uint8_t fresh[SAE_FRESH_LEN(SAE_WIDE, SAE_MAX_GROUPS(SAE_WIDE))];
     uint32_t commits_made;
+    uint32_t shown;
 };
 
 /* A frame in the air. */
@@ -338,7 +339,19 @@ static uint32_t add_element(uint8_t out[SAE_FRAME_LEN], uint32_t written)
     return written + (uint32_t)sizeof element;
 }
 
-/* Does what an answer says: the used commit is replaced, the event is told, the frames are written and sent in their order. */
+/* The front panel: the number of good links, asked of the table's header alone after each call that may have changed it. A pair that is
+ * formed anew marks a link, which is one good link less and no event. */
+static void show(struct printer *printer)
+{
+    uint32_t good = 0;
+    done(sae_good_links(printer->table, SAE_HEADER_LEN, &good), "sae_good_links");
+    if (good != printer->shown)
+        tell(printer, "shows %" PRIu32 " good link%s on its panel", good, good == 1 ? "" : "s");
+    printer->shown = good;
+}
+
+/* Does what an answer says: the used commit is replaced, the event is told, the panel is looked after, the frames are written and sent in
+ * their order. */
 static void serve(struct printer *printer, const uint8_t answer[SAE_ANSWER_LEN], const uint8_t token[SAE_EXPECTED_LEN])
 {
     static const char *const events[] = {"", "accepts: its link with %c is finished", "gives the run with %c up", "ends its link with %c"};
@@ -346,6 +359,7 @@ static void serve(struct printer *printer, const uint8_t answer[SAE_ANSWER_LEN],
     chip_renew(printer, answer);
     if (answer[SAE_ANSWER_EVENT] != SAE_EVENT_NONE)
         tell(printer, events[answer[SAE_ANSWER_EVENT]], name_of(address));
+    show(printer);
     for (uint8_t place = 0; place < answer[SAE_ANSWER_COUNT]; place++) {
         uint8_t out[SAE_FRAME_LEN];
         const uint8_t *entry = answer + SAE_ANSWER_FRAME(place);
@@ -413,6 +427,7 @@ static void forget(struct printer *printer, const uint8_t *address)
     uint8_t answer[SAE_ANSWER_LEN];
     done(sae_kill(printer->table, sizeof printer->table, address, answer), "sae_kill");
     tell(printer, "forgets %c: its record is freed, and %c is told nothing", name_of(address), name_of(address));
+    show(printer);
 }
 
 /* The play. */

@@ -6,10 +6,10 @@
  *
  * Every function returns 0, or the number of the refusal (enum sae_refusal). The causes of a call are tested in the order of their
  * numbers, and the first one that holds is returned. After a refusal every lent octet is as it was: table, answer, written, out, parts,
- * milliseconds and offset. No argument makes a call undefined, but for the rules of C: a pointer is not null, also where its length is 0
- * (nothing is read there, but it may not be null), and points to as many octets as the length says; nothing that a call may write
+ * milliseconds, offset and good. No argument makes a call undefined, but for the rules of C: a pointer is not null, also where its length
+ * is 0 (nothing is read there, but it may not be null), and points to as many octets as the length says; nothing that a call may write
  * overlaps anything else that is lent to it (what has length 0 overlaps nothing). No alignment is asked of octets; `written`,
- * `milliseconds` and `offset` are uint32_t.
+ * `milliseconds`, `offset` and `good` are uint32_t.
  *
  * Fields of more than one octet are little-endian everywhere. Addresses are six octets, first octet first.
  */
@@ -25,8 +25,8 @@ extern "C" {
 
 /* The version of this interface. The first number rises when a host must be looked at again: a call's arguments, a layout or what a call
  * does has changed. The second rises when calls or names were added. */
-#define SAE_VERSION_MAJOR 3
-#define SAE_VERSION_MINOR 1
+#define SAE_VERSION_MAJOR 4
+#define SAE_VERSION_MINOR 0
 
 /* Lengths, in octets. */
 #define SAE_ADDRESS_LEN 6
@@ -43,7 +43,8 @@ extern "C" {
 /* The two forms of a table, each named by the octets of a record. sae_initialize makes SAE_WIDE, which has room for group 21. A table of
  * SAE_NARROW, as earlier versions made it, is served as before. Which form a table has is told by SAE_HEADER_RECORD_SIZE alone: a
  * table of 4,352 octets may have five slots of SAE_NARROW or four of SAE_WIDE. A table with another record size is of no form, refusal 2.
- * `form` is SAE_NARROW, SAE_WIDE or what that field says, in all that follows. */
+ * `form` is SAE_NARROW, SAE_WIDE or what that field says, in all that follows. A table of either form that was last served by a version
+ * before 4.0 has 0 as its number of good links: if it has some, it is not of its form until sae_fill has been called on it, once. */
 #define SAE_NARROW 864
 #define SAE_WIDE 1080
 
@@ -146,12 +147,13 @@ enum sae_refusal {
 /* Fresh commits, SAE_COMMIT_LEN(form) octets for each listed group in the order of the list: scalar, element, zeros. Made by the chip and
  * never used before. If the answer names a group (SAE_ANSWER_FRESH), that one is used up and never offered again; the others may be. */
 
-/* Where things stand in the header. The host may look into the table between calls; only the engine writes it. Octets 10-13 are 0. */
+/* Where things stand in the header. The host may look into the table between calls; only the engine writes it. Octets 10-11 are 0. */
 #define SAE_HEADER_SLOTS 0        /* 2 octets: records, free ones too */
 #define SAE_HEADER_USED 2         /* 2 octets: records in use */
 #define SAE_HEADER_OPEN 4         /* 2 octets: records with a run */
 #define SAE_HEADER_RECORD_SIZE 6  /* 2 octets: the form, SAE_NARROW or SAE_WIDE */
 #define SAE_HEADER_FIRST 8        /* 2 octets: offset of the first record, 32 */
+#define SAE_HEADER_GOOD 12        /* 2 octets: good links, the records with a finished link whose mark is 0; 0 in tables of before 4.0 */
 #define SAE_HEADER_PERIOD 14      /* 2 octets: as in the settings, 0 for the factory's, in both forms */
 #define SAE_HEADER_OWN 16         /* 6 octets: own address */
 #define SAE_HEADER_COUNT 22       /* 1 octet: number of groups */
@@ -303,6 +305,23 @@ uint32_t sae_next_deadline(const uint8_t *table, size_t table_len, uint32_t now,
  *
  * Refuses 2 and 3. */
 uint32_t sae_find(const uint8_t *table, size_t table_len, const uint8_t address[6], uint32_t *offset);
+
+/* Says how many good links a table has, from its header alone: finished links whose mark (SAE_RECORD_SUPERSEDED) is 0. It takes no longer
+ * for a larger table.
+ *
+ * header, header_len   the 32 octets that a table begins with, or a copy of them, which may be asked while a call on the table runs
+ * good                 the number. Of a table that is of its form it is the count over all records
+ *
+ * Refuses 2: header_len is not 32, or no table of its form begins with these octets. The records are not looked at, so that a table whose
+ * header is answered for may still be refused 2 by the other calls. */
+uint32_t sae_good_links(const uint8_t *header, size_t header_len, uint32_t *good);
+
+/* Puts the number of good links into a table, whatever stood there: for a table of before version 4.0. The other calls keep it.
+ *
+ * table, table_len   a table that is of its form but for SAE_HEADER_GOOD; if that is right already, nothing changes
+ *
+ * Refuses 2: the table is not of its form elsewhere. */
+uint32_t sae_fill(uint8_t *table, size_t table_len);
 
 #ifdef __cplusplus
 }

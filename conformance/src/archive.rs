@@ -61,6 +61,8 @@ mod c {
         pub fn sae_read(table: *const u8, table_len: usize, frame: *const u8, frame_len: usize, parts: *mut u8) -> u32;
         pub fn sae_next_deadline(table: *const u8, table_len: usize, now: u32, milliseconds: *mut u32) -> u32;
         pub fn sae_find(table: *const u8, table_len: usize, address: *const u8, offset: *mut u32) -> u32;
+        pub fn sae_good_links(header: *const u8, header_len: usize, good: *mut u32) -> u32;
+        pub fn sae_fill(table: *mut u8, table_len: usize) -> u32;
     }
 }
 
@@ -176,5 +178,13 @@ impl Engine for Archive {
 
     fn find(&self, table: &[u8], address: &Address, offset: &mut u32) -> u32 {
         unsafe { c::sae_find(table.as_ptr(), table.len(), address.as_ptr(), offset) }
+    }
+
+    fn good_links(&self, header: &[u8], good: &mut u32) -> u32 {
+        unsafe { c::sae_good_links(header.as_ptr(), header.len(), good) }
+    }
+
+    fn fill(&self, table: &mut [u8]) -> u32 {
+        unsafe { c::sae_fill(table.as_mut_ptr(), table.len()) }
     }
 }

@@ -3,12 +3,12 @@
 use std::hint::black_box;
 use std::time::{Duration, Instant};
 
-use crate::forms::{records, Layout, Seen, ALL, NARROW, WIDE};
+use crate::forms::{recount, Layout, ALL, NARROW, WIDE};
 use crate::interface::{engines, Call, Engine, Lent};
 use crate::plain::frame::{commit_len, TOKEN_REQUIRED};
 use crate::plain::octets::{put16, put32, Address};
 use crate::plain::peer::at;
-use crate::plain::table::{Groups, Settings};
+use crate::plain::table::{Groups, Settings, GOOD_AT, HEADER};
 use crate::random::Random;
 
 /// How often each engine is timed in each row.
@@ -147,6 +147,8 @@ fn rows(kind: Kind, slots: usize) -> Vec<Row> {
     let mut late = full.clone();
     record(&mut random, kind, &mut late, slots - 1, Holds::Committed);
     put32(&mut late, kind.form.length(slots - 1) + at::T0, NOW - 1);
+    let mut unfilled = full.clone();
+    put16(&mut unfilled, GOOD_AT, 0);
     let commit = frame(1, 19, &random.octets(commit_len(19)));
     let confirm = frame(2, 1, &random.octets(32));
     let followed = [confirm.clone(), [221, 15].into_iter().chain([7; 15]).collect::<Vec<u8>>().repeat(ELEMENTS)].concat();
@@ -173,6 +175,8 @@ fn rows(kind: Kind, slots: usize) -> Vec<Row> {
         row("write_record: a Commit", &late, Call::WriteRecord { address: last, sequence: 1, value: vec![], room: 500 }, 0),
         row("next_deadline: none due", &full, Call::NextDeadline { now: NOW }, 0),
         row("find: the last slot's address", &full, Call::Find { address: last }, 0),
+        row("good_links: the panel's question", &full, Call::GoodLinks { header: full[..HEADER].to_vec() }, 0),
+        row("fill: a table of before", &unfilled, Call::Fill, 0),
     ]
 }
 
@@ -273,8 +277,5 @@ fn record(random: &mut Random, kind: Kind, table: &mut [u8], slot: usize, holds:
         commit(octets, form.link_own);
         commit(octets, form.link_peer);
     }
-    let count = |test: fn(&Seen) -> bool| records(table).filter(test).count() as u16;
-    let (in_use, open) = (count(|peer| peer.in_use()), count(|peer| peer.has_run()));
-    put16(table, 2, in_use);
-    put16(table, 4, open);
+    recount(table);
 }

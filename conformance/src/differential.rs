@@ -4,13 +4,13 @@ use std::collections::BTreeMap;
 use std::fs;
 use std::path::Path;
 
-use crate::faults::{fault, scratch};
+use crate::faults::{fault, miscount, scratch};
 use crate::forms::{FORMS, WIDE};
 use crate::inputs::{slots, Pool, SHARED};
 use crate::interface::{engines, Call, Counts};
 use crate::lists;
 use crate::plain::octets::put16;
-use crate::plain::table::HEADER;
+use crate::plain::table::{GOOD_AT, HEADER};
 use crate::random::Random;
 use crate::together::{Fault, Known, Together};
 
@@ -24,7 +24,13 @@ pub fn run(calls: u64, seed: u64) -> Result<bool, String> {
     if names.len() < 2 {
         println!("  the archive is not linked: only what holds of each engine alone is checked");
     }
-    let mut trial = Trial { random: Random::new(seed), counts: Counts::default(), faults: BTreeMap::new(), lists: lists::Tally::default() };
+    let mut trial = Trial {
+        random: Random::new(seed),
+        counts: Counts::default(),
+        faults: BTreeMap::new(),
+        miscounts: BTreeMap::new(),
+        lists: lists::Tally::default(),
+    };
     while trial.counts.total() < calls {
         if let Err(fault) = trial.round() {
             println!("after {} calls: {}", trial.counts.total(), fault.what);
@@ -36,6 +42,8 @@ pub fn run(calls: u64, seed: u64) -> Result<bool, String> {
     trial.counts.print();
     let faults: u64 = trial.faults.values().sum();
     println!("  {faults} tables with one fault, of {} kinds, each refused 2", trial.faults.len());
+    let miscounts: u64 = trial.miscounts.values().sum();
+    println!("  {miscounts} tables with another number of good links than they have, each refused 2 until it was filled");
     trial.lists.print();
     Ok(true)
 }
@@ -57,6 +65,7 @@ struct Trial {
     random: Random,
     counts: Counts,
     faults: BTreeMap<&'static str, u64>,
+    miscounts: BTreeMap<&'static str, u64>,
     lists: lists::Tally,
 }
 
@@ -66,8 +75,10 @@ impl Trial {
             0..=24 => self.after_set_up(),
             25..=54 => self.on_sound(),
             55..=84 => self.on_faults(),
-            85..=89 => self.on_anything(),
-            90..=94 => self.set_ups(),
+            85..=88 => self.on_anything(),
+            89..=91 => self.set_ups(),
+            92..=93 => self.of_headers(),
+            94..=95 => self.fills(),
             _ => self.two_printers(),
         }
     }
@@ -94,13 +105,24 @@ impl Trial {
         let slots = slots(&mut self.random, pool.form);
         let mut together = Together::new(&[], Known::Nothing);
         for _ in 0..4 {
-            together.set(&pool.sound_table(&mut self.random, slots), Known::Sound);
+            let (table, known) = self.counted(&pool, slots);
+            together.set(&table, known);
             for _ in 0..self.random.within(1, 12) {
                 let call = pool.call(&mut self.random, together.table());
                 self.call(&mut together, &call)?;
             }
         }
         Ok(())
+    }
+
+    /// A table of the form; now and then its number of good links is another.
+    fn counted(&mut self, pool: &Pool, slots: usize) -> (Vec<u8>, Known) {
+        let mut table = pool.sound_table(&mut self.random, slots);
+        if self.random.percent(95) {
+            return (table, Known::Sound);
+        }
+        *self.miscounts.entry(miscount(&mut self.random, &mut table)).or_default() += 1;
+        (table, Known::Unfilled)
     }
 
     /// A table of the form, with one fault after the other.
@@ -115,6 +137,10 @@ impl Trial {
                 true => match fault(&mut self.random, &mut table) {
                     Some(what) => {
                         *self.faults.entry(what).or_default() += 1;
+                        // Its number of good links may be wrong too.
+                        if self.random.percent(20) && table.len() >= HEADER {
+                            put16(&mut table, GOOD_AT, self.random.below(4) as u16);
+                        }
                         Known::Unsound
                     }
                     None => Known::Sound,
@@ -125,7 +151,37 @@ impl Trial {
                 }
             };
             together.set(&table, known);
+            let call = if self.random.percent(10) { Call::Fill } else { pool.call(&mut self.random, &table) };
+            self.call(&mut together, &call)?;
+        }
+        Ok(())
+    }
+
+    /// The panel's question, of headers of all kinds.
+    fn of_headers(&mut self) -> Result<(), Fault> {
+        let pool = Pool::new(&mut self.random);
+        let slots = slots(&mut self.random, pool.form);
+        let mut together = Together::new(&pool.sound_table(&mut self.random, slots), Known::Sound);
+        for _ in 0..self.random.within(5, 40) {
+            let header = pool.header(&mut self.random, together.table());
+            self.call(&mut together, &Call::GoodLinks { header })?;
+        }
+        Ok(())
+    }
+
+    /// A table whose number of good links is another: a call of any kind, then fill, which makes it sound, and further calls.
+    fn fills(&mut self) -> Result<(), Fault> {
+        let pool = Pool::new(&mut self.random).with_damage(0);
+        let slots = slots(&mut self.random, pool.form);
+        let mut together = Together::new(&[], Known::Nothing);
+        for _ in 0..self.random.within(1, 10) {
+            let mut table = pool.sound_table(&mut self.random, slots);
+            *self.miscounts.entry(miscount(&mut self.random, &mut table)).or_default() += 1;
+            together.set(&table, Known::Unfilled);
             let call = pool.call(&mut self.random, &table);
+            self.call(&mut together, &call)?;
+            self.call(&mut together, &Call::Fill)?;
+            let call = pool.call(&mut self.random, together.table());
             self.call(&mut together, &call)?;
         }
         Ok(())

@@ -2,17 +2,19 @@
 
 use crate::forms::{groups_of, pace_of, records, Layout, NARROW};
 use crate::inputs::{WRONG_PERIODS, WRONG_SYNC_LIMITS};
+use crate::panel;
 use crate::plain::frame::commit_len;
 use crate::plain::octets::{get16, put16, Address};
 use crate::plain::peer::at;
-use crate::plain::table::{Groups, HEADER, PERIOD_AT, SYNC_LIMIT_AT, TOKEN};
+use crate::plain::table::{Groups, GOOD_AT, HEADER, PERIOD_AT, SYNC_LIMIT_AT, TOKEN};
 use crate::random::Random;
 
-/// Makes a table of the form unsound by one fault that is surely one. Answers what it is, or nothing if there is no place for it.
+/// Makes a table of the form unsound by one fault that is surely one, whatever its number of good links. Answers what it is, or nothing if
+/// there is no place for it.
 pub fn fault(random: &mut Random, table: &mut Vec<u8>) -> Option<&'static str> {
     let form = Layout::of(table)?;
     if random.percent(35) {
-        return header_fault(random, table, form);
+        return fault_in_header(random, table, form);
     }
     let slot = random.below(records(table).len());
     let groups = groups_of(table);
@@ -45,13 +47,55 @@ pub fn fault(random: &mut Random, table: &mut Vec<u8>) -> Option<&'static str> {
     }
 }
 
-fn header_fault(random: &mut Random, table: &mut Vec<u8>, form: &Layout) -> Option<&'static str> {
-    let other = |random: &mut Random, table: &mut [u8], place: usize| {
-        let now = get16(table, place);
-        let new = *random.pick(&[0, 1, 2, 31, 33, 60, 61, 64, 65, 863, 865, 1079, 1081, 65535, now.wrapping_add(1), now ^ 256]);
-        put16(table, place, new);
-        new != now
-    };
+/// Gives a table of the form another number of good links than it has, or takes or gives a link its mark and leaves the number. Answers
+/// what was done.
+pub fn miscount(random: &mut Random, table: &mut [u8]) -> &'static str {
+    let form = Layout::of(table).expect("a table of the form");
+    let linked: Vec<usize> = records(table).enumerate().filter(|(_, peer)| peer.has_link()).map(|(slot, _)| slot).collect();
+    if !linked.is_empty() && random.percent(30) {
+        table[form.length(*random.pick(&linked)) + form.superseded] ^= 1;
+        return "a mark without the number of good links";
+    }
+    let (right, in_use) = (panel::told(table), get16(table, 2));
+    let near = [right.wrapping_add(1), right.wrapping_sub(1), linked.len() as u16, in_use, in_use + 1, right ^ 256, 65535];
+    let wrong = if right > 0 && random.percent(40) { 0 } else { *random.pick(&near) };
+    put16(table, GOOD_AT, if wrong == right { right + 1 } else { wrong });
+    "number of good links"
+}
+
+/// Puts another number than its own in a field of the header. Answers whether it is another.
+fn other(random: &mut Random, table: &mut [u8], place: usize) -> bool {
+    let now = get16(table, place);
+    let new = *random.pick(&[0, 1, 2, 31, 33, 60, 61, 64, 65, 863, 865, 1079, 1081, 65535, now.wrapping_add(1), now ^ 256]);
+    put16(table, place, new);
+    new != now
+}
+
+/// Changes a field of a header, alone: no sound table may start with it afterwards, or one may.
+pub fn header_fault(random: &mut Random, header: &mut [u8]) {
+    let Some(form) = Layout::of(header) else { return };
+    let [slots, in_use] = [0, 2].map(|at| get16(header, at));
+    match random.below(14) {
+        0 => put16(header, 0, *random.pick(&[0, 1, 60, 61, 64, 65, 256, slots ^ 256, in_use, in_use.wrapping_sub(1)])),
+        1 => put16(header, 2, *random.pick(&[0, slots, slots.wrapping_add(1), 256, in_use ^ 256])),
+        2 => put16(header, 4, *random.pick(&[0, in_use, in_use.wrapping_add(1), slots, 256, in_use ^ 256, 65535])),
+        3 => put16(header, GOOD_AT, *random.pick(&[0, in_use, in_use.wrapping_add(1), slots, 256, in_use ^ 256, 65535])),
+        4 => put16(header, 6, *random.pick(&[0, 863, 864, 865, 1079, 1080, 1081])),
+        5 => put16(header, 8, *random.pick(&[0, 31, 33, 32 + 256])),
+        6 => header[*random.pick(&[10, 11])] = random.within(1, 255) as u8,
+        7 => header[16] ^= 1,
+        8 => header[16..22].fill(0),
+        9 => header[22] = *random.pick(&[0, 1, 2, 3, 4, 255]),
+        10 => {
+            group_fault(random, header, form);
+        }
+        11 => put16(header, 28, *random.pick(&[64, 65, 66, 256, 65535])),
+        12 => put16(header, PERIOD_AT, *random.pick(&WRONG_PERIODS)),
+        _ => header[SYNC_LIMIT_AT] = *random.pick(&WRONG_SYNC_LIMITS),
+    }
+}
+
+fn fault_in_header(random: &mut Random, table: &mut Vec<u8>, form: &Layout) -> Option<&'static str> {
     match random.below(20) {
         0 => other(random, table, 0).then_some("slots"),
         1 => other(random, table, 2).then_some("count in use"),
@@ -59,7 +103,7 @@ fn header_fault(random: &mut Random, table: &mut Vec<u8>, form: &Layout) -> Opti
         3 => other(random, table, 6).then_some("record size"),
         4 => other(random, table, 8).then_some("first record's offset"),
         5 => {
-            table[*random.pick(&[10, 11, 12, 13])] = random.within(1, 255) as u8;
+            table[*random.pick(&[10, 11])] = random.within(1, 255) as u8;
             Some("a zero octet of the header")
         }
         6 => {

@@ -1,9 +1,9 @@
 //! The two forms of a table as values, for what makes tables and looks into them: offsets, lists of groups, records in sight.
 
 use crate::plain::form::{self, Form, COMMIT};
-use crate::plain::octets::{get16, get32, Address};
+use crate::plain::octets::{get16, get32, put16, Address};
 use crate::plain::peer::{at, At, State};
-use crate::plain::table::{self, Groups, Pace, Settings, HEADER, PERIOD_AT, SYNC_LIMIT_AT};
+use crate::plain::table::{self, Groups, Pace, Settings, GOOD_AT, HEADER, PERIOD_AT, SYNC_LIMIT_AT};
 
 /// A commit as it is stored, with the zeros of the wide form: so those of the two forms compare with filling zeros aside.
 pub type Commit = [u8; COMMIT];
@@ -157,6 +157,15 @@ pub fn records(table: &[u8]) -> impl ExactSizeIterator<Item = Seen<'_>> {
     octets.chunks_exact(form.record).map(move |octets| Seen { form, octets })
 }
 
+/// Puts the counts of a table's records into its header: in use, Open, good links.
+pub fn recount(table: &mut [u8]) {
+    let count = |test: fn(&Seen) -> bool| records(table).filter(test).count() as u16;
+    let (in_use, open, good) = (count(|peer| peer.in_use()), count(|peer| peer.has_run()), count(|peer| peer.has_good_link()));
+    put16(table, 2, in_use);
+    put16(table, 4, open);
+    put16(table, GOOD_AT, good);
+}
+
 /// The groups that a table's header lists.
 pub fn groups_of(table: &[u8]) -> Groups {
     Groups::in_header(table.first_chunk().expect("a header"))
@@ -219,6 +228,10 @@ impl Seen<'_> {
 
     pub fn superseded(&self) -> bool {
         self.octets[self.form.superseded] != 0
+    }
+
+    pub fn has_good_link(&self) -> bool {
+        self.has_link() && !self.superseded()
     }
 
     pub fn link_sync(&self) -> u8 {

@@ -191,6 +191,11 @@ impl History {
         Ok(())
     }
 
+    /// The finished links whose mark is clear, with every address.
+    pub fn good_links(&self) -> usize {
+        self.peers.values().filter(|peer| peer.link.is_some_and(|link| !link.marked)).count()
+    }
+
     /// (a) "The table's link flag, mark, group and commits say just this", for every address; and with (d), Sync counts the
     /// repeats of a run in being, since it began or, once its pair stands, since then.
     pub fn agrees(&self, table: &[u8]) -> Result<(), String> {

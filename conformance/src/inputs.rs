@@ -1,15 +1,17 @@
 //! Inputs at random: tables of either form, sound and with a fault, frames of every shape, calls with right and damaged arguments.
 //! What they are made from is drawn from a small pool, so that equal commits, known peers and near deadlines are common.
 
-use crate::forms::{pace_of, records, Commit, Layout, Seen, FORMS};
+use crate::faults::header_fault;
+use crate::forms::{pace_of, records, recount, Commit, Layout, Seen, FORMS};
 use crate::interface::Call;
+use crate::panel;
 use crate::plain::form::{COMMIT, SLOTS};
 use crate::plain::frame::{
     commit_len, scalar_len, COMMIT as COMMIT_FRAME, CONFIRM, CONFIRM_LEN, GROUP_REFUSED, LONGEST, TOKEN_REQUIRED, VALUE,
 };
-use crate::plain::octets::{put16, put32, Address};
+use crate::plain::octets::{get16, put16, put32, Address};
 use crate::plain::peer::at;
-use crate::plain::table::{Groups, Settings, HEADER, HIGHEST_THRESHOLD, TOKEN};
+use crate::plain::table::{Groups, Settings, GOOD_AT, HEADER, HIGHEST_THRESHOLD, TOKEN};
 use crate::random::Random;
 
 /// What tables and calls are made from.
@@ -222,7 +224,7 @@ impl Pool {
 
     /// A call of any kind on this table.
     pub fn call(&self, random: &mut Random, table: &[u8]) -> Call {
-        match random.below(43) {
+        match random.below(46) {
             0 => self.initialize(random),
             1..=4 => Call::Initiate { address: self.address(random, table), now: self.now(random, table), fresh: self.fresh(random) },
             5 => Call::Kill { address: self.address(random, table) },
@@ -232,6 +234,8 @@ impl Pool {
             18..=20 => Call::Read { frame: self.frame(random, table) },
             21..=22 => Call::NextDeadline { now: self.now(random, table) },
             23 => Call::Find { address: self.address(random, table) },
+            24..=25 => Call::GoodLinks { header: self.header(random, table) },
+            26 => Call::Fill,
             _ => self.receive(random, table),
         }
     }
@@ -265,6 +269,36 @@ impl Pool {
             }
         }
         Call::Initialize { own, settings }
+    }
+
+    /// What the panel's question is asked of: the table's header, or one of another table; as it is or damaged.
+    pub fn header(&self, random: &mut Random, table: &[u8]) -> Vec<u8> {
+        let mut header = match random.below(3) {
+            0 => panel::header(table).to_vec(),
+            _ => self.possible_header(random),
+        };
+        if random.percent(40) && header.len() == HEADER {
+            header_fault(random, &mut header);
+        }
+        if self.damaged(random) {
+            let length = *random.pick(&[0, 1, 31, 33, 64, self.form.length(1)]);
+            header.resize(length, 0);
+        }
+        header
+    }
+
+    /// A header that a sound table starts with: slots and counts at their ends and between.
+    fn possible_header(&self, random: &mut Random) -> Vec<u8> {
+        let settings = Settings { groups: self.groups, threshold: 0, period: period(random), sync_limit: sync_limit(random) };
+        let any = random.within(1, self.form.slots);
+        let slots = *random.pick(&[1, 2, any, self.form.slots]);
+        let mut header = self.form.fresh_table(slots, &self.own, &settings)[..HEADER].to_vec();
+        let up_to = |random: &mut Random, most: usize| *random.pick(&[0, most / 2, most.saturating_sub(1), most, most]);
+        let in_use = up_to(random, slots);
+        put16(&mut header, 2, in_use as u16);
+        put16(&mut header, 4, up_to(random, in_use) as u16);
+        put16(&mut header, GOOD_AT, up_to(random, in_use) as u16);
+        header
     }
 
     fn write_parts(&self, random: &mut Random) -> Call {
@@ -329,9 +363,8 @@ impl Pool {
                 self.sound_record(random, octets, &address, highest_sync);
             }
         }
-        let (in_use, open) = counts(&table);
-        put16(&mut table, 2, in_use);
-        put16(&mut table, 4, open);
+        recount(&mut table);
+        let open = get16(&table, 4);
         let near = [open, open + 1, open.saturating_sub(1), 0, 5, HIGHEST_THRESHOLD];
         let threshold = (*random.pick(&near)).min(HIGHEST_THRESHOLD);
         put16(&mut table, 28, threshold);
@@ -510,10 +543,4 @@ fn some_record<'a>(random: &mut Random, table: &'a [u8]) -> Option<Seen<'a>> {
 
 fn record_of<'a>(table: &'a [u8], address: &Address) -> Option<Seen<'a>> {
     records(table).find(|peer| peer.in_use() && peer.address() == *address)
-}
-
-/// The records in use, and those with a run.
-fn counts(table: &[u8]) -> (u16, u16) {
-    let count = |test: fn(&Seen) -> bool| records(table).filter(test).count() as u16;
-    (count(|peer| peer.in_use()), count(|peer| peer.has_run()))
 }

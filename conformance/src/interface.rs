@@ -9,7 +9,7 @@ pub const PARTS: usize = 20;
 /// The refusals' numbers run from 1 to this.
 pub const REFUSALS: usize = 11;
 
-/// The ten functions of include/sae.h. Each returns 0 or the refusal's number.
+/// The twelve functions of include/sae.h. Each returns 0 or the refusal's number.
 #[allow(clippy::too_many_arguments)]
 pub trait Engine {
     fn name(&self) -> &'static str;
@@ -44,6 +44,8 @@ pub trait Engine {
     fn read(&self, table: &[u8], frame: &[u8], parts: &mut [u8; PARTS]) -> u32;
     fn next_deadline(&self, table: &[u8], now: u32, milliseconds: &mut u32) -> u32;
     fn find(&self, table: &[u8], address: &Address, offset: &mut u32) -> u32;
+    fn good_links(&self, header: &[u8], good: &mut u32) -> u32;
+    fn fill(&self, table: &mut [u8]) -> u32;
 }
 
 /// The engines there are to run: the plain one, and the archive's if it is linked.
@@ -54,7 +56,7 @@ pub fn engines() -> Vec<&'static dyn Engine> {
     return vec![&crate::plain::Plain];
 }
 
-/// A call and all that is handed over, but for the table.
+/// A call and all that is handed over, but for the table. The panel's question looks at no table.
 #[derive(Clone, Debug, PartialEq)]
 pub enum Call {
     Initialize { own: Address, settings: [u8; SETTINGS] },
@@ -67,11 +69,25 @@ pub enum Call {
     Read { frame: Vec<u8> },
     NextDeadline { now: u32 },
     Find { address: Address },
+    GoodLinks { header: Vec<u8> },
+    Fill,
 }
 
 /// The names of the calls, in the order of `Call::kind`.
-pub const KINDS: [&str; 10] =
-    ["initialize", "initiate", "kill", "receive", "expire", "write_parts", "write_record", "read", "next_deadline", "find"];
+pub const KINDS: [&str; 12] = [
+    "initialize",
+    "initiate",
+    "kill",
+    "receive",
+    "expire",
+    "write_parts",
+    "write_record",
+    "read",
+    "next_deadline",
+    "find",
+    "good_links",
+    "fill",
+];
 
 impl Call {
     pub fn kind(&self) -> usize {
@@ -86,12 +102,19 @@ impl Call {
             Call::Read { .. } => 7,
             Call::NextDeadline { .. } => 8,
             Call::Find { .. } => 9,
+            Call::GoodLinks { .. } => 10,
+            Call::Fill => 11,
         }
+    }
+
+    /// Whether the call has an answer of 28 octets: those that make steps.
+    pub fn answers(&self) -> bool {
+        self.kind() <= 4
     }
 
     /// Whether the call is handed a table that it may change.
     pub fn may_change(&self) -> bool {
-        self.kind() <= 4
+        self.answers() || *self == Call::Fill
     }
 
     /// Makes the call.
@@ -113,6 +136,8 @@ impl Call {
             Call::Read { frame } => engine.read(table, frame, &mut lent.parts),
             Call::NextDeadline { now } => engine.next_deadline(table, *now, &mut lent.number),
             Call::Find { address } => engine.find(table, address, &mut lent.number),
+            Call::GoodLinks { header } => engine.good_links(header, &mut lent.number),
+            Call::Fill => engine.fill(table),
         }
     }
 
@@ -132,7 +157,7 @@ pub struct Lent {
     pub parts: [u8; PARTS],
     pub written: u32,
     pub out: Vec<u8>,
-    /// Milliseconds until a deadline, or a record's offset.
+    /// Milliseconds until a deadline, a record's offset, or a number of links.
     pub number: u32,
 }
 

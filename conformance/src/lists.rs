@@ -5,16 +5,18 @@
 //!
 //! A list is honest if it keeps demand 3's premises: no commit is used twice, from the other printer comes only what it sent to
 //! this one, and a Confirm from it that meets a pair gets verdict 1 only if the other made it over that same pair. Then (b) and
-//! (c) are checked; (a) and (d) are checked on every list.
+//! (c) are checked; (a) and (d) are checked on every list, and so is that the panel's question, asked of the table's header after every
+//! call, answers the number of clear links that the answers said.
 
 use crate::forms::{groups_of, pace_of, records, Layout, Seen, ALL, FORMS, LISTS, NARROW, WIDE};
 use crate::history::{Answer, History, Pair, Sent};
 use crate::inputs::{period, slots, sync_limit, Pool};
-use crate::interface::{engines, Call, Counts, Lent};
+use crate::interface::{engines, Call, Counts, Engine, Lent};
+use crate::panel;
 use crate::plain::frame::{self, commit_len, Body, COMMIT as COMMIT_FRAME, CONFIRM, SUCCESS, TOKEN_REQUIRED, VALUE};
-use crate::plain::octets::{get16, Address};
+use crate::plain::octets::{get16, put16, Address};
 use crate::plain::rules::LINK_COUNTER;
-use crate::plain::table::{Groups, Pace, Settings};
+use crate::plain::table::{Groups, Pace, Settings, GOOD_AT};
 use crate::random::Random;
 use crate::together::{Fault, Known, Together};
 use crate::trace::{call_line, expected_lines, hex, shorten, table_lines};
@@ -33,6 +35,11 @@ pub struct Tally {
     pub abandoned: u64,
     pub ended: u64,
     pub set_ups: u64,
+    /// Times that the panel's question was asked after a call, and the most good links that it answered.
+    pub asked: u64,
+    pub most_good: u32,
+    /// Tables that got another number of good links than theirs, and then were filled.
+    pub filled: u64,
     /// Lists that began with two narrow tables, with one of each form, and with two wide ones.
     pub begun: [u64; 3],
     /// Runs accepted in the groups 19, 20 and 21.
@@ -62,6 +69,10 @@ impl Tally {
         println!("    begun with two narrow tables {narrow} times, with one of each form {mixed}, with two wide ones {wide}");
         println!("    links accepted in group 19: {in_19}, 20: {in_20}, 21: {in_21}");
         println!("    {} of them while the two printers had another period or another Sync limit", self.accepted_unlike);
+        println!(
+            "    the panel's question asked {} times, up to {} good links, always as many as the answers said; {} tables filled",
+            self.asked, self.most_good, self.filled
+        );
         println!("    (a) the table's links were what the answers said, after each call");
         println!(
             "    (b) both links clear {} times, always the same pair; {} times two links parted, at least one marked",
@@ -217,7 +228,8 @@ impl World<'_> {
                 let list = *self.random.pick(&LISTS);
                 self.set_up(who, list)
             }
-            78..=81 => self.refused(who),
+            78..=80 => self.refused(who),
+            81 => self.panel(who),
             82..=85 => self.replay(who),
             86..=95 => self.third_party(who),
             _ if !self.honest => self.anything(who),
@@ -344,6 +356,51 @@ impl World<'_> {
         self.call(who, call)
     }
 
+    /// The panel's question, a fill of the table as it is, or one after an update: the table has another number of good links, as one of
+    /// before they were counted has none, and every other call refuses it.
+    fn panel(&mut self, who: usize) -> Result<(), Fault> {
+        let sound = self.printers[who].together.table().to_vec();
+        match self.random.below(3) {
+            0 => return self.call(who, Call::GoodLinks { header: panel::header(&sound).to_vec() }),
+            1 => return self.call(who, Call::Fill),
+            _ => {}
+        }
+        let right = panel::told(&sound);
+        let wrong = if right > 0 && self.random.percent(70) { 0 } else { right ^ (1 << self.random.below(16)) };
+        let mut old = sound.clone();
+        put16(&mut old, GOOD_AT, wrong);
+        self.printers[who].set(&old, Known::Unfilled);
+        let (address, now) = (self.printers[1 - who].own, self.printers[who].now);
+        let calls = [Call::Kill { address }, Call::Expire { now }, Call::NextDeadline { now }, Call::Find { address }];
+        let call = self.random.pick(&calls).clone();
+        self.call(who, call)?;
+        self.tally.filled += 1;
+        self.call(who, Call::Fill)?;
+        match self.printers[who].together.table() == sound {
+            true => Ok(()),
+            false => Err(self.breach(&Call::Fill, "fill did not make the table what it was".into())),
+        }
+    }
+
+    /// After a call, the panel's question asked of the table's header alone: as many as the answers said.
+    fn ask(&mut self, who: usize, after: &Call) -> Result<(), Fault> {
+        let Printer { history, together, .. } = &self.printers[who];
+        let (header, said) = (panel::header(together.table()).to_vec(), history.good_links() as u32);
+        let answer = |engine: &&dyn Engine| {
+            let mut good = u32::MAX;
+            (engine.good_links(&header, &mut good), good)
+        };
+        let answers: Vec<(u32, u32)> = engines().iter().map(answer).collect();
+        if answers.iter().any(|answer| *answer != (0, said)) {
+            self.make(who, &Call::GoodLinks { header })?;
+            let what = format!("the answers said {said} clear links, and the panel's question returned and told {answers:?}");
+            return Err(self.breach(after, what));
+        }
+        self.tally.asked += 1;
+        self.tally.most_good = self.tally.most_good.max(said);
+        Ok(())
+    }
+
     /// A call that is refused, with anything in it: no premise binds it.
     fn refused(&mut self, who: usize) -> Result<(), Fault> {
         let other = self.printers[1 - who].own;
@@ -444,8 +501,8 @@ impl World<'_> {
             self.tally.refused += 1;
             return Ok(());
         }
-        if !call.may_change() {
-            return Ok(());
+        if !call.answers() {
+            return self.ask(who, &call);
         }
         let answer = Answer::read(&lent.answer);
         let before = self.printers[who].history.peers.get(&answer.address).and_then(|peer| peer.last_pair);
@@ -476,7 +533,8 @@ impl World<'_> {
         for sent in &answer.frames {
             self.send(who, &call, &answer, sent)?;
         }
-        self.check(who).map_err(|what| self.breach(&call, what))
+        self.check(who).map_err(|what| self.breach(&call, what))?;
+        self.ask(who, &call)
     }
 
     /// "The frames in an answer are sent to its address as the writer makes them from the table just left."

@@ -3,8 +3,9 @@
 use crate::forms::records;
 use crate::history::Answer;
 use crate::interface::{engines, Call, Counts, Engine, Lent};
+use crate::panel;
 use crate::plain::frame::CONFIRM_LEN;
-use crate::plain::table::{HEADER, PERIOD_AT, SYNC_LIMIT_AT};
+use crate::plain::table::{GOOD_AT, HEADER, PERIOD_AT, SYNC_LIMIT_AT};
 use crate::report::{difference, Outcome};
 use crate::trace::{call_line, expected_lines, shorten, table_lines};
 
@@ -44,7 +45,9 @@ pub enum Known {
     Nothing,
     /// It is of its form: no call may refuse it.
     Sound,
-    /// It is not: every call but initialize must refuse it.
+    /// It is but for its number of good links: every call but initialize and fill must refuse it, and fill may not.
+    Unfilled,
+    /// It is not, whatever that number: every call but initialize must refuse it.
     Unsound,
 }
 
@@ -72,6 +75,33 @@ fn unlike_given(call: &Call, before: &[u8], table: &[u8]) -> Option<String> {
             (!same).then(|| "  set up stored another first period or Sync limit than it was given".into())
         }
         _ => (stored(before) != stored(table)).then(|| "  a field of the header changed that only set up writes".into()),
+    }
+}
+
+/// "Header octets 12–13 keep it, true after every call not refused"; and fill writes nothing else. A breach of that, in words.
+fn miscounted(call: &Call, before: &[u8], table: &[u8]) -> Option<String> {
+    let (told, counted) = (panel::told(table), panel::good_links(table));
+    if told != counted {
+        return Some(format!("  the header says {told} good links, and the records have {counted}"));
+    }
+    let rest = |table: &[u8]| [&table[..GOOD_AT], &table[GOOD_AT + 2..]].concat();
+    (*call == Call::Fill && rest(before) != rest(table)).then(|| "  fill wrote more than the number of good links".into())
+}
+
+/// "On a sound table it equals the count over all records; it refuses 2 exactly when it is not given 32 octets or no sound table starts
+/// with them": there is one that is sound if any is. What was told otherwise, in words.
+fn wrongly_told(engine: &dyn Engine, header: &[u8], told: Option<u32>) -> Option<String> {
+    let witness = header.try_into().ok().and_then(panel::witness);
+    let mut deadline = 0;
+    let sound = witness.filter(|table| engine.next_deadline(table, 0, &mut deadline) == 0);
+    match (told, sound) {
+        (None, None) => None,
+        (None, Some(_)) => Some("  refused, and a sound table starts with these octets".into()),
+        (Some(_), None) => Some("  answered, and no sound table starts with these octets".into()),
+        (Some(told), Some(table)) => {
+            let counted = u32::from(panel::good_links(&table));
+            (told != counted).then(|| format!("  answered {told}, and a sound table that starts with these octets has {counted}"))
+        }
     }
 }
 
@@ -147,6 +177,9 @@ impl Together {
             if let Some(alone) = alone(call, number) {
                 fault = fault.or_else(|| unlike_alone(engine, &alone, &self.before, (number, &got, table)));
             }
+            if let Call::GoodLinks { header } = call {
+                fault = fault.or_else(|| wrongly_told(engine, header, (number == 0).then_some(got.number)));
+            }
             if let Some((number_0, lent_0)) = &first {
                 fault = fault.or_else(|| difference((number, &got, table), (*number_0, lent_0, self.tables[0].table())));
             }
@@ -169,18 +202,29 @@ impl Together {
 
     /// What an engine promises whatever it is compared with.
     fn broken_promise(&self, call: &Call, number: u32, table: &[u8], before: &Lent, after: &Lent) -> Option<String> {
-        let initialize = matches!(call, Call::Initialize { .. });
         if (number != 0 || !call.may_change()) && table != self.before {
             return Some(format!("  returned {number}, and the table changed"));
         }
         if number != 0 && before != after {
             return Some(format!("  refused {number}, and a lent octet changed"));
         }
-        if number == 2 && self.known == Known::Sound {
+        let (taken, refused) = match (call, self.known) {
+            (Call::Initialize { .. }, _) | (_, Known::Nothing) => (false, false),
+            (Call::GoodLinks { header }, known) => (known == Known::Sound && header == panel::header(&self.before), false),
+            (_, Known::Sound) | (Call::Fill, Known::Unfilled) => (true, false),
+            (_, Known::Unfilled | Known::Unsound) => (false, true),
+        };
+        if number == 2 && taken {
             return Some("  a sound table was refused".into());
         }
-        if number != 2 && self.known == Known::Unsound && !initialize {
+        if number != 2 && refused {
             return Some(format!("  returned {number} for a table that is not of its form"));
+        }
+        if taken && number == 0 && matches!(call, Call::GoodLinks { .. }) && after.number != u32::from(panel::good_links(table)) {
+            return Some(format!("  answered {}, and the records have {}", after.number, panel::good_links(table)));
+        }
+        if *call == Call::Fill && self.known == Known::Sound && table != self.before {
+            return Some("  fill changed a sound table".into());
         }
         if number == 0 {
             let mut allowed = before.clone();
@@ -191,15 +235,19 @@ impl Together {
                     allowed.out[..written].copy_from_slice(&after.out[..written]);
                 }
                 Call::Read { .. } => allowed.parts = after.parts,
-                Call::NextDeadline { .. } | Call::Find { .. } => allowed.number = after.number,
+                Call::NextDeadline { .. } | Call::Find { .. } | Call::GoodLinks { .. } => allowed.number = after.number,
+                Call::Fill => {}
                 _ => allowed.answer = after.answer,
             }
             if allowed != *after {
                 return Some("  an octet was written that is not of the answer".into());
             }
             if call.may_change() {
-                let moved = || moved_deadline(&self.before, table, &Answer::read(&after.answer)).filter(|_| !initialize);
-                return unlike_given(call, &self.before, table).or_else(moved);
+                let broken = unlike_given(call, &self.before, table).or_else(|| miscounted(call, &self.before, table));
+                return match call {
+                    Call::Initialize { .. } | Call::Fill => broken,
+                    _ => broken.or_else(|| moved_deadline(&self.before, table, &Answer::read(&after.answer))),
+                };
             }
         }
         None

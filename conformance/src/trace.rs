@@ -41,6 +41,8 @@ pub fn read_call(words: &[&str]) -> Result<Call, String> {
         ["read", frame] => Call::Read { frame: octets(frame)? },
         ["next_deadline", now] => Call::NextDeadline { now: number(now)? },
         ["find", address] => Call::Find { address: array(address)? },
+        ["good_links", header] => Call::GoodLinks { header: octets(header)? },
+        ["fill"] => Call::Fill,
         _ => return Err(format!("not an op of this format: {}", shorten(&words.join(" ")))),
     })
 }
@@ -62,6 +64,8 @@ pub fn call_line(call: &Call) -> String {
         Call::Read { frame } => format!("read {}", hex(frame)),
         Call::NextDeadline { now } => format!("next_deadline {now}"),
         Call::Find { address } => format!("find {}", hex(address)),
+        Call::GoodLinks { header } => format!("good_links {}", hex(header)),
+        Call::Fill => "fill".into(),
     }
 }
 
@@ -80,11 +84,12 @@ pub fn read_expected(call: &Call, table: &[u8], returns: &str, changes: Option<&
             lent.parts = array(parts)?;
             0
         }
-        ([">", "0", told], Call::NextDeadline { .. } | Call::Find { .. }) => {
+        ([">", "0", told], Call::NextDeadline { .. } | Call::Find { .. } | Call::GoodLinks { .. }) => {
             lent.number = number(told)?;
             0
         }
-        ([">", "0", answer], call) if call.may_change() => {
+        ([">", "0", "-"], Call::Fill) => 0,
+        ([">", "0", answer], call) if call.answers() => {
             lent.answer = array(answer)?;
             0
         }
@@ -111,7 +116,8 @@ pub fn expected_lines(call: &Call, before: &[u8], number: u32, lent: &Lent, afte
         _ if number != 0 => format!("> {number} -"),
         Call::WriteParts { .. } | Call::WriteRecord { .. } => format!("> 0 {} {}", lent.written, hex(&lent.out)),
         Call::Read { .. } => format!("> 0 {}", hex(&lent.parts)),
-        Call::NextDeadline { .. } | Call::Find { .. } => format!("> 0 {}", lent.number),
+        Call::NextDeadline { .. } | Call::Find { .. } | Call::GoodLinks { .. } => format!("> 0 {}", lent.number),
+        Call::Fill => "> 0 -".into(),
         _ => format!("> 0 {}", hex(&lent.answer)),
     };
     let mut changes = String::new();

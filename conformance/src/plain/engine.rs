@@ -3,10 +3,10 @@
 
 use super::form::WIDE;
 use super::frame::{self, Body, Parts, COMMIT, CONFIRM, SUCCESS, VALUE};
-use super::octets::{individual, pack, usable, Address};
+use super::octets::{individual, pack, put16, usable, Address};
 use super::peer::{Peer, State};
 use super::rules::{self, Record, Step, Turn, LINK_COUNTER};
-use super::table::{self, peer_at, slots, Header, Settings, Standing, HEADER};
+use super::table::{self, peer_at, slots, Header, Settings, Standing, GOOD_AT, HEADER};
 
 /// "Causes and numbers, in order of test."
 #[derive(Clone, Copy, Debug, PartialEq)]
@@ -166,6 +166,19 @@ pub fn find<const R: usize>(table: &[u8], address: &Address) -> Result<u32, Refu
     Ok(table::find::<R>(table, pack(address)).map_or(0, |slot| (HEADER + R * slot) as u32))
 }
 
+/// "The panel's question reads the 32 header octets alone": 2.
+pub fn good_links<const R: usize>(header: &[u8]) -> Result<u32, Refusal> {
+    let head = header.try_into().map_err(|_| Refusal::Table)?;
+    table::good_links::<R>(head).map(u32::from).ok_or(Refusal::Table)
+}
+
+/// "A call fills the field, right or wrong before, in a table otherwise sound; any other gets 2."
+pub fn fill<const R: usize>(table: &mut [u8]) -> Result<(), Refusal> {
+    let (_, good) = table::otherwise_sound::<R>(table).ok_or(Refusal::Table)?;
+    put16(table, GOOD_AT, good);
+    Ok(())
+}
+
 /// The first two causes of a call about an address: 2, 3.
 fn admit<const R: usize>(table: &[u8], address: &Address) -> Result<Header, Refusal> {
     let header = table::sound::<R>(table).ok_or(Refusal::Table)?;
@@ -192,9 +205,9 @@ fn turn<'a>(header: &Header, address: &Address, now: u32, fresh: &'a [u8]) -> Tu
 /// Lets `rule` change the record in a slot, then seats or frees the record and keeps the counts.
 fn at_slot<const R: usize, T>(table: &mut [u8], slot: usize, address: &Address, rule: impl FnOnce(&mut Record<R>) -> T) -> T {
     let mut peer = peer_at(table, slot);
-    let before = Standing { in_use: peer.in_use(), open: peer.has_run() };
+    let before = Standing { in_use: peer.in_use(), open: peer.has_run(), good: peer.has_good_link() };
     let result = rule(&mut peer);
-    let after = Standing { in_use: peer.has_run() || peer.has_link(), open: peer.has_run() };
+    let after = Standing { in_use: peer.has_run() || peer.has_link(), open: peer.has_run(), good: peer.has_good_link() };
     if after != before {
         match after.in_use {
             true => peer.seat(address),

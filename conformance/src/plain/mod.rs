@@ -19,8 +19,8 @@ use octets::{put16, put32, Address};
 macro_rules! in_form {
     ($table:expr, $call:ident($($argument:expr),*)) => {
         match table::record_size($table) {
-            Some(NARROW) => engine::$call::<NARROW>($table, $($argument),*),
-            Some(WIDE) => engine::$call::<WIDE>($table, $($argument),*),
+            Some(NARROW) => engine::$call::<NARROW>($table $(, $argument)*),
+            Some(WIDE) => engine::$call::<WIDE>($table $(, $argument)*),
             _ => Err(Refusal::Table),
         }
     };
@@ -100,6 +100,14 @@ impl Engine for Plain {
 
     fn find(&self, table: &[u8], address: &Address, offset: &mut u32) -> u32 {
         tell_number(in_form!(table, find(address)), offset)
+    }
+
+    fn good_links(&self, header: &[u8], good: &mut u32) -> u32 {
+        tell_number(in_form!(header, good_links()), good)
+    }
+
+    fn fill(&self, table: &mut [u8]) -> u32 {
+        in_form!(table, fill()).map_or_else(|refusal| refusal as u32, |()| 0)
     }
 }
 

@@ -111,6 +111,11 @@ impl<const R: usize, T: Deref<Target = [u8; R]>> Peer<T> {
         self.0[At::<R>::SUPERSEDED] != 0
     }
 
+    /// A good link: a finished one "with a clear mark".
+    pub fn has_good_link(&self) -> bool {
+        self.has_link() && !self.superseded()
+    }
+
     pub fn link_sync(&self) -> u8 {
         self.0[At::<R>::LINK_SYNC]
     }

@@ -15,6 +15,8 @@ pub const HEADER: usize = 32;
 const GROUPS_AT: [usize; GROUPS] = [24, 26, 30];
 /// Where the settings have them.
 const SETTINGS_GROUPS_AT: [usize; GROUPS] = [2, 4, 6];
+/// Where the header has the number of good links, in both forms: "Header octets 12–13 keep it".
+pub const GOOD_AT: usize = 12;
 /// Where the header has the first period and the Sync limit, in both forms.
 pub const PERIOD_AT: usize = 14;
 pub const SYNC_LIMIT_AT: usize = 23;
@@ -204,13 +206,19 @@ pub fn initialize<const R: usize>(table: &mut [u8], slots: usize, own: &Address,
     table[SYNC_LIMIT_AT] = settings.sync_limit;
 }
 
-/// The header, if the table is of its form. One pass.
+/// The header, if the table is of its form: "01's form of the table gains that condition", that 12–13 is the number of good links.
 pub fn sound<const R: usize>(table: &[u8]) -> Option<Header> {
+    let (header, good) = otherwise_sound::<R>(table)?;
+    (good == get16(table, GOOD_AT)).then_some(header)
+}
+
+/// The header and the number of good links, if the table is of its form whatever 12–13 says. One pass.
+pub fn otherwise_sound<const R: usize>(table: &[u8]) -> Option<(Header, u16)> {
     let slots = slots_for::<R>(table.len())?;
     let (head, records) = table.split_first_chunk()?;
     let header = sound_header::<R>(head, slots)?;
     let mut addresses = [0; SLOTS];
-    let (mut in_use, mut open) = (0, 0);
+    let (mut in_use, mut open, mut good) = (0, 0, 0);
     for octets in records.as_chunks::<R>().0 {
         let peer = Peer(octets);
         if !peer.in_use() {
@@ -232,8 +240,18 @@ pub fn sound<const R: usize>(table: &[u8]) -> Option<Header> {
         addresses[in_use] = address;
         in_use += 1;
         open += u16::from(peer.has_run());
+        good += u16::from(peer.has_good_link());
     }
-    (in_use == usize::from(get16(head, 2)) && open == header.open).then_some(header)
+    (in_use == usize::from(get16(head, 2)) && open == header.open).then_some((header, good))
+}
+
+/// The number of good links that a header says, unless "no sound table starts with" it: all that can be told without the records, and
+/// counts that records can have.
+pub fn good_links<const R: usize>(head: &[u8; HEADER]) -> Option<u16> {
+    let (slots, in_use, open, good) = (get16(head, 0), get16(head, 2), get16(head, 4), get16(head, GOOD_AT));
+    sound_header::<R>(head, usize::from(slots))?;
+    let possible = (1..=Form::<R>::SLOTS).contains(&usize::from(slots)) && in_use <= slots && open <= in_use && good <= in_use;
+    possible.then_some(good)
 }
 
 /// Whether an address is among these. No early way out, as in a zero test.
@@ -250,7 +268,7 @@ fn sound_header<const R: usize>(head: &[u8; HEADER], slots: usize) -> Option<Hea
     let right = usize::from(get16(head, 0)) == slots
         && usize::from(get16(head, 6)) == R
         && usize::from(get16(head, 8)) == HEADER
-        && all_zero(&head[10..PERIOD_AT])
+        && get16(head, 10) == 0
         && individual(own)
         && groups.right::<R>()
         && threshold <= HIGHEST_THRESHOLD;
@@ -267,17 +285,21 @@ pub fn last_free<const R: usize>(table: &[u8]) -> Option<usize> {
     slots::<R>(table).iter().rposition(|octets| !Peer(octets).in_use())
 }
 
-/// What a record adds to the header's two counts.
+/// What a record adds to the header's three counts.
 #[derive(Clone, Copy, PartialEq)]
 pub struct Standing {
     pub in_use: bool,
     pub open: bool,
+    pub good: bool,
 }
 
-/// Keeps "slots in use" and "Open, the records whose run is Committed or Confirmed" true.
+/// Keeps "slots in use", "Open, the records whose run is Committed or Confirmed" and "the number of finished links with a clear mark"
+/// true.
 pub fn recount(table: &mut [u8], before: Standing, after: Standing) {
     let in_use = get16(table, 2) + u16::from(after.in_use) - u16::from(before.in_use);
     let open = get16(table, 4) + u16::from(after.open) - u16::from(before.open);
+    let good = get16(table, GOOD_AT) + u16::from(after.good) - u16::from(before.good);
     put16(table, 2, in_use);
     put16(table, 4, open);
+    put16(table, GOOD_AT, good);
 }

@@ -35,7 +35,9 @@ use Rattle.table.specs.Initial.{initialOk, slotsFor, initialHeader, initialTabl
 use Rattle.table.specs.declared.Entry.{Entry}
 use Rattle.table.specs.declared.Entry.the-variants as entry-is
 use Rattle.table.proofs.Laws.{entry-at, entry-absent, sound-header}
-use Rattle.table.proofs.Initial.{FitSettings, initial-slot, initial-served, initial-decoded, bytes-initial}
+use Rattle.table.specs.GoodLinks.{fills}
+use Rattle.table.proofs.GoodLinks.{fills-sound}
+use Rattle.table.proofs.Initial.{FitSettings, initial-slot, initial-served, initial-decoded, initial-sound, bytes-initial}
 use Rattle.rules.specs.declared.Frames.the-variants as frames
 use Rattle.rules.specs.Book.{_is_, hasRun, Step, silence}
 use Rattle.message.specs.View.{view, viewOf, message, messageOf, commitIn}
@@ -51,7 +53,7 @@ use Rattle.answers.proofs.Ending.{Finished, Turned, turn-ends, finish-ends}
 use Rattle.answers.proofs.Ending as ending
 use Rattle.calls.specs.Calls.{initializes, initializesFrom, initiates, kills, receives, expires, expiresBy, termsOf, clockOf, freshIn, brings, noToken, admitStart, startTurn, startStep, killTurn, killStep, admitFrame, frameTurn, frameStep, dueSlot, clockStep}
 use Rattle.call_laws.proofs.Ends.{set-up-leaves}
-use Rattle.agreement.specs.Calls.{Writing, Call, initialize, initiate, kill, receive, expire, write, Octets, CallHanded, an-initialize, an-initiate, a-kill, a-receive, an-expire, a-write, left, isDone, done, tableAfter}
+use Rattle.agreement.specs.Calls.{Writing, Call, initialize, initiate, kill, receive, expire, write, fill, Octets, CallHanded, an-initialize, an-initiate, a-kill, a-receive, an-expire, a-write, a-fill, left, isDone, done, tableAfter}
 use Rattle.agreement.specs.Story.{stockOf, stockIn, groupsIn, limitIn}
 use Rattle.agreement.proofs.Rules.{Whole, Afresh, Verified, verified, Does}
 use Rattle.agreement.proofs.Ruled.{State, Heard, Stocked, frame-does, clock-does, start-does}
@@ -236,12 +238,20 @@ pub record Made (t u : List ℕ) (a : List ℕ) (o : Step) (r : Answer) : Type 0
   pub here : look (decodeTable u) a ≡ o .peer
   pub elsewhere : (b : List ℕ) → sameAddress a b ≡ false → look (decodeTable u) b ≡ look (decodeTable t) b
 
+-- a table that a fill leaves as it is: a sound one, or none
+pub record Held (t : List ℕ) : Type 0 where
+  pub bytes : Bytes t
+  pub filled : fills t ≡ t
+
+pub sound-held : (t : List ℕ) → Bytes t → sound t ≡ true → Held t
+sound-held t b s = record { bytes = b; filled = fills-sound t b s }
+
 pub data Ends (t : List ℕ) : Call → Type 0 where
-  -- a refusal, nothing due, or the writer's
+  -- a refusal, nothing due, the writer's, or a fill
   idles : {c : Call} → done t c ≡ false → tableAfter t c ≡ t → Ends t c
   -- a set up: no address has a record, and the Sync limit is what the settings say
   sets-up : {size : ℕ} {buffer own settings : List ℕ} → done t (initialize size buffer own settings) ≡ true → left t (initialize size buffer own settings) .answer .frames ≡ frames.None
-      → Bytes (tableAfter t (initialize size buffer own settings)) → ((a : List ℕ) → look (decodeTable (tableAfter t (initialize size buffer own settings))) a ≡ noPeer)
+      → Held (tableAfter t (initialize size buffer own settings)) → ((a : List ℕ) → look (decodeTable (tableAfter t (initialize size buffer own settings))) a ≡ noPeer)
       → limitIn (tableAfter t (initialize size buffer own settings)) ≡ limitOf (settingsOf settings .limit)
       → Ends t (initialize size buffer own settings)
   frees : {a : List ℕ} → done t (kill a) ≡ true → Made t (tableAfter t (kill a)) a killStep (left t (kill a) .answer) → Ends t (kill a)
@@ -364,12 +374,20 @@ initial-limit : (f : Form) (s : Settings) (own : List ℕ) (n : ℕ) → limitOf
 unfolding initialTable initialHeader
 initial-limit f s own n = refl
 
+-- a fill
+fill-ends : (t : List ℕ) → Held t → Ends t fill
+unfolding done tableAfter noneDue
+fill-ends t H = idles {c = fill} refl (H .filled)
+
 -- the writer's call
 write-ends : (t : List ℕ) (w : Writing) → Ends t (write w)
 unfolding done tableAfter noneDue
 write-ends t w = idles {c = write w} refl refl
 
-module _ (L : Lawful) (t : List ℕ) (b : Bytes t) where
+module _ (L : Lawful) (t : List ℕ) (H : Held t) where
+  b : Bytes t
+  b = H .bytes
+
   -- a set up: refused for a reserved octet, for what the settings say, own address or length, or done
   initialize-ends : (size : ℕ) (buffer own settings : List ℕ) → Bytes buffer → Octets 6 own → Octets 16 settings → Ends t (initialize size buffer own settings)
   unfolding done tableAfter initializesFrom initializes ends
@@ -390,7 +408,8 @@ module _ (L : Lawful) (t : List ℕ) (b : Bytes t) where
 
       go : (z x : Bool) → reservedZero settings ≡ z → initialOk form (settingsOf settings) own (length buffer) ≡ x → Ends t (initialize size buffer own settings)
       go true true z e = sets-up {size = size} {buffer = buffer} {own = own} {settings = settings} (rw (z, e) (quiet-done own)) (rw (z, e) (quiet-frames own))
-          (rw (z, e, quiet-done own) (subst Bytes (sym (made e)) (bytes-initial form (served e) (settingsOf settings) own buffer fit bb)))
+          (rw (z, e, quiet-done own) (subst Held (sym (made e)) (sound-held _ (bytes-initial form (served e) (settingsOf settings) own buffer fit bb)
+          (initial-sound form (served e) (settingsOf settings) own buffer fit e))))
           (λ a. rw (z, e, quiet-done own) (fresh-look _ a (λ k. ap (λ (u : List ℕ). slot (decodeTable u) k) (made e)
           ∙ ap (λ (T : Table). slot T k) (initial-decoded form (served e) (settingsOf settings) own buffer fit e) ∙ initial-slot form (settingsOf settings) own (slotsFor form (length buffer)) k)))
           (rw (z, e, quiet-done own) (ap (λ (u : List ℕ). limitIn u) (made e) ∙ ap (λ (T : Table). limitOf (T .header .settings .limit)) (initial-decoded form (served e) (settingsOf settings) own buffer fit e)
@@ -482,3 +501,4 @@ module _ (L : Lawful) (t : List ℕ) (b : Bytes t) where
   call-ends (a-receive ha ht hr hf he hv) = receive-ends _ _ _ _ _ _ ha ht hr hf he hv
   call-ends (an-expire ht) = expire-ends _ ht
   call-ends (a-write hw) = write-ends t _
+  call-ends a-fill = fill-ends t H

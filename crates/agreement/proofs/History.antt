@@ -27,7 +27,8 @@ use Rattle.agreement.specs.Story.{Story, nothingYet, isStart, sends, use
 use Rattle.agreement.specs.Statement.{no-link, SetTo}
 use Rattle.agreement.proofs.Rules.{either}
 use Rattle.agreement.proofs.Shows.{Shows, no-run, shows-state, shows-whole, shows-kept, shows-cleared}
-use Rattle.agreement.proofs.Engine.{Lawful, Told, a-start, a-frame, a-clock, Ends, idles, sets-up, frees, steps, call-ends, fresh-look}
+use Rattle.table.proofs.GoodLinks.{fills-none}
+use Rattle.agreement.proofs.Engine.{Lawful, Told, a-start, a-frame, a-clock, Held, sound-held, Ends, idles, sets-up, frees, steps, call-ends, fresh-look}
 
 -- ---- addresses are the same where their numbers are
 
@@ -88,11 +89,11 @@ shows-at : {n m : ℕ} {p q : Peer} {r s : Story} → m ≡ n → q ≡ p → s 
 shows-at {n} {m} {p} {q} {r} {s} i e f h = subst (λ (k : ℕ). Shows k q s) (sym i) (subst (Shows n q) (sym f) (subst (λ (x : Peer). Shows n x r) (sym e) h))
 
 module _ (t : List ℕ) where
-  bytes-after : {c : Call} → Bytes t → Ends t c → Bytes (tableAfter t c)
-  bytes-after b (idles d e) = subst Bytes (sym e) b
-  bytes-after b (sets-up d f y n i) = y
-  bytes-after b (frees d M) = M .bytes
-  bytes-after b (steps a o k d M D) = M .bytes
+  held-after : {c : Call} → Held t → Ends t c → Held (tableAfter t c)
+  held-after b (idles d e) = subst Held (sym e) b
+  held-after b (sets-up d f y n i) = y
+  held-after b (frees d M) = sound-held _ (M .bytes) (M .sound)
+  held-after b (steps a o k d M D) = sound-held _ (M .bytes) (M .sound)
 
   shows-after : {c : Call} (b : List ℕ) (s : Story) → Ends t c → Shows (limitIn t) (look (decodeTable t) b) s
       → Shows (limitIn (tableAfter t c)) (look (decodeTable (tableAfter t c)) b) (storyAfter t c b s)
@@ -185,18 +186,18 @@ set-before : {n : ℕ} {X : Side} {c : Entry} {h : List Entry} → SetTo n X (c 
 set-before S e before size buffer address settings k = S e before size buffer address settings (sooner k)
 
 module _ (L : Lawful) where
-  pub bytes-of : {h : List Entry} → AllHanded h → (X : Side) → Bytes (tableOf h X)
+  pub held-of : {h : List Entry} → AllHanded h → (X : Side) → Held (tableOf h X)
   unfolding tableOf
-  bytes-of none X = no-bytes
-  bytes-of (more {e = e} {h = h} k H) X =
-      by-side Bytes (e .side) X (λ q. bytes-after (tableOf h X) (bytes-of H X) (call-ends L (tableOf h X) (bytes-of H X) (k .call))) (bytes-of H X)
+  held-of none X = record { bytes = no-bytes; filled = fills-none }
+  held-of (more {e = e} {h = h} k H) X =
+      by-side Held (e .side) X (λ q. held-after (tableOf h X) (held-of H X) (call-ends L (tableOf h X) (held-of H X) (k .call))) (held-of H X)
 
   pub shown : {h : List Entry} → AllHanded h → (X : Side) (a : List ℕ) → Shows (limitIn (tableOf h X)) (look (decodeTable (tableOf h X)) a) (storyOf h X a)
   unfolding tableOf storyOf
   shown none X a = shows-at refl (fresh-look (decodeTable []) a empty-slot) refl (nothing-shown _)
   shown (more {e = e} {h = h} k H) X a =
       shown-by a (e .side) X (tableOf h X) _ (shown H X a)
-      (shows-after (tableOf h X) a (storyOf h X a) (call-ends L (tableOf h X) (bytes-of H X) (k .call)) (shown H X a))
+      (shows-after (tableOf h X) a (storyOf h X a) (call-ends L (tableOf h X) (held-of H X) (k .call)) (shown H X a))
 
   -- every run's limit is in its range
   pub limits : {h : List Entry} → AllHanded h → (X : Side) (a : List ℕ) → Limited (λ n. (1 ≤ n) × (n ≤ 10)) (storyOf h X a .runs)
@@ -204,7 +205,7 @@ module _ (L : Lawful) where
   limits none X a = none
   limits (more {e = e} {h = h} k H) X a =
       by-side (λ (s : Story). Limited (λ n. (1 ≤ n) × (n ≤ 10)) (s .runs)) (e .side) X
-      (λ q. limits-after _ (tableOf h X) a (storyOf h X a) (limit-of (tableOf h X)) (call-ends L (tableOf h X) (bytes-of H X) (k .call)) (limits H X a)) (limits H X a)
+      (λ q. limits-after _ (tableOf h X) a (storyOf h X a) (limit-of (tableOf h X)) (call-ends L (tableOf h X) (held-of H X) (k .call)) (limits H X a)) (limits H X a)
 
   -- where a printer's set ups all have the limit n, its table has, and every run of it
   set-limit : (n : ℕ) (X : Side) {h : List Entry} → AllHanded h → SetTo n X h → sound (tableOf h X) ≡ true → limitIn (tableOf h X) ≡ n
@@ -214,7 +215,7 @@ module _ (L : Lawful) where
       by-side (λ (t : List ℕ). sound t ≡ true → limitIn t ≡ n) (e .side) X
       (λ q. limit-after n (tableOf h X) (set-limit n X H (set-before S))
       (λ size buffer own settings d c. S e h size buffer own settings last (subst (λ (Y : Side). done (tableOf h Y) (e .call) ≡ true) (sym q) d) q c)
-      (call-ends L (tableOf h X) (bytes-of H X) (k .call)))
+      (call-ends L (tableOf h X) (held-of H X) (k .call)))
       (set-limit n X H (set-before S))
 
   pub set-limits : (n : ℕ) (X : Side) {h : List Entry} → AllHanded h → SetTo n X h → (a : List ℕ) → Limited (λ m. m ≡ n) (storyOf h X a .runs)
@@ -222,5 +223,5 @@ module _ (L : Lawful) where
   set-limits n X none S a = none
   set-limits n X (more {e = e} {h = h} k H) S a =
       by-side (λ (s : Story). Limited (λ m. m ≡ n) (s .runs)) (e .side) X
-      (λ q. limits-after _ (tableOf h X) a (storyOf h X a) (set-limit n X H (set-before S)) (call-ends L (tableOf h X) (bytes-of H X) (k .call)) (set-limits n X H (set-before S) a))
+      (λ q. limits-after _ (tableOf h X) a (storyOf h X a) (set-limit n X H (set-before S)) (call-ends L (tableOf h X) (held-of H X) (k .call)) (set-limits n X H (set-before S) a))
       (set-limits n X H (set-before S) a)

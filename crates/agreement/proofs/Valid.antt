@@ -35,7 +35,7 @@ use Rattle.agreement.proofs.Ruled.{no-run-state}
 use Rattle.agreement.proofs.Shows.{Padded, RunShows, no-run, unpaired, paired, Shows, zero-two, one-two}
 use Rattle.agreement.proofs.Stock.{sound-listing}
 use Rattle.agreement.proofs.Engine.{Lawful, call-ends, fresh-look}
-use Rattle.agreement.proofs.History.{look-same-address, bytes-of, shown, empty-slot}
+use Rattle.agreement.proofs.History.{look-same-address, held-of, shown, empty-slot}
 use Rattle.agreement.proofs.Acts.{ownCommit, view, Over, over-run, over-link, commit-is}
 use Rattle.agreement.proofs.Wire.{FromRecord, record-from, parts-not, reads-own}
 use Rattle.agreement.proofs.Deeds.{From, from, Deed, deed, view-none}
@@ -175,7 +175,7 @@ module _ (L : Lawful) (own : Side → List ℕ) where
   pub deed-of : {e : Entry} {h : List Entry} → Handed e → AllHanded h → (a : Act) × DeedAt h e a
   deed-of {e} {h} k H =
       deed (tableOf h (e .side)) (own (other (e .side))) (storyOf h (e .side) (own (other (e .side))))
-      (call-ends L (tableOf h (e .side)) (bytes-of L H (e .side)) (k .call)) (shown L H (e .side) (own (other (e .side))))
+      (call-ends L (tableOf h (e .side)) (held-of L H (e .side)) (k .call)) (shown L H (e .side) (own (other (e .side))))
 
   unfoldable pub hist : {h : List Entry} → AllHanded h → List model.Call
   hist none = []

@@ -31,7 +31,7 @@ use Rattle.agreement.specs.Calls.{Writing, writeParts, writeRecord, Call
 use Rattle.agreement.specs.Story.{groupsIn}
 use Rattle.agreement.specs.Sent.{drawn, expectedOf, Among, SendsBy, writing, Written}
 use Rattle.agreement.proofs.Engine.{Ends, idles, sets-up, frees, steps, call-ends}
-use Rattle.agreement.proofs.History.{bytes-of}
+use Rattle.agreement.proofs.History.{held-of}
 use Rattle.agreement.proofs.Wire.{outside-not}
 use Rattle.agreement.proofs.Deeds.{none-sent, kill-frames}
 use Rattle.agreement.proofs.Valid.{table-same}
@@ -122,7 +122,7 @@ sent-written {e} {h} {X} {a} {octets} {x} (more k H) S = record { makes = λ out
     t = tableOf h (e .side)
 
     s : sound (tableOf (e ∷ h) (e .side)) ≡ true
-    s = rw (table-same e h) (sends-sound t (e .call) x (call-ends lawful t (bytes-of lawful H (e .side)) (k .call)) (S .stepped) (S .among))
+    s = rw (table-same e h) (sends-sound t (e .call) x (call-ends lawful t (held-of lawful H (e .side)) (k .call)) (S .stepped) (S .among))
 
 -- ---- and what the writer writes is sent
 

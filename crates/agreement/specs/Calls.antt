@@ -8,6 +8,7 @@ use Rattle.protocol.specs.Model.{Side, A, B}
 use Rattle.octets.specs.Scan.{if_then_else_}
 use Rattle.octets.specs.Octets.{Bytes}
 use Rattle.record.specs.Layout.{formOf}
+use Rattle.table.specs.GoodLinks.{fills}
 use Rattle.answers.specs.declared.Outcome.{Outcome}
 use Rattle.answers.specs.declared.Outcome.the-variants as outcome
 use Rattle.answers.specs.declared.Answer.{Answer}
@@ -20,7 +21,7 @@ pub data Writing : Type 0 where
   writeParts : (sequence status group counter : ℕ) (token rest out : List ℕ) → Writing
   writeRecord : (address : List ℕ) (sequence : ℕ) (value out : List ℕ) → Writing
 
--- "Set up; start; kill; frame received; clock; write a frame", with all that is handed over, the settings as C does. A table may be a fresh one of either
+-- "Set up; start; kill; frame received; clock; write a frame", and the one that fills the number of good links, with all that is handed over, the settings as C does. A table may be a fresh one of either
 -- form: a set up is told by the record size of the form that it makes. This engine makes the one of 1,080 octets; the one of 864 was made before, and is
 -- served; of any other size there is none, and the set up is refused.
 pub data Call : Type 0 where
@@ -30,6 +31,7 @@ pub data Call : Type 0 where
   receive : (address : List ℕ) (time : ℕ) (frame fresh expected : List ℕ) (verdict : ℕ) → Call
   expire : (time : ℕ) → Call
   write : (w : Writing) → Call
+  fill : Call
 
 -- a call of a printer, and the 32 octets that its chip gives for the Confirm that the answer may send
 pub record Entry : Type 0 where
@@ -58,6 +60,7 @@ pub data CallHanded : Call → Type 0 where
       → CallHanded (receive address time frame fresh expected verdict)
   an-expire : {time : ℕ} → time < 2 ^ 32 → CallHanded (expire time)
   a-write : {w : Writing} → WritingHanded w → CallHanded (write w)
+  a-fill : CallHanded fill
 
 pub record Handed (e : Entry) : Type 0 where
   pub call : CallHanded (e .call)
@@ -69,7 +72,7 @@ pub data AllHanded : List Entry → Type 0 where
 
 -- ---- "Each call gets the table that its printer's last call left"
 
--- what a call answers and leaves. The writer's is no step, as a clock call with nothing due is none: no event, no frames, no group, no address
+-- what a call answers and leaves. The writer's is no step, as a clock call with nothing due is none: no event, no frames, no group, no address; nor is a fill
 abbrev pub left : List ℕ → Call → Left
 left t (initialize size buffer own settings) = initializesFrom (formOf size) buffer own settings
 left t (initiate address time fresh) = initiates t address time fresh
@@ -77,6 +80,7 @@ left t (kill address) = kills t address
 left t (receive address time frame fresh expected verdict) = receives t address time frame fresh expected verdict
 left t (expire time) = expires t time
 left t (write w) = record { answer = noneDue; table = t }
+left t fill = record { answer = noneDue; table = fills t }
 
 -- what the writer answers and leaves of its buffer, from the table t
 abbrev pub writes : List ℕ → Writing → LeftOut
@@ -88,7 +92,7 @@ isDone outcome.Done = true
 isDone outcome.NoneDue = false
 isDone (outcome.Refused c) = false
 
--- the call is a step: neither refused, nor a clock call with nothing due, nor the writer's
+-- the call is a step: neither refused, nor a clock call with nothing due, nor the writer's, nor a fill
 unfoldable pub done : List ℕ → Call → Bool
 done t c = isDone (left t c .answer .outcome)
 
@@ -99,6 +103,7 @@ isInitialize (kill address) = false
 isInitialize (receive address time frame fresh expected verdict) = false
 isInitialize (expire time) = false
 isInitialize (write w) = false
+isInitialize fill = false
 
 -- "a set up that is not refused makes its buffer the table": a refused one leaves the old table
 unfoldable pub tableAfter : List ℕ → Call → List ℕ
@@ -138,6 +143,7 @@ isWrite (kill address) = false
 isWrite (receive address time frame fresh expected verdict) = false
 isWrite (expire time) = false
 isWrite (write w) = true
+isWrite fill = false
 
 unfoldable pub withoutWrites : List Entry → List Entry
 withoutWrites [] = []

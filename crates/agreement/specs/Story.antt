@@ -21,7 +21,7 @@ use Rattle.rules.specs.declared.Event.the-variants as event
 use Rattle.rules.specs.Book.{_is_, _isnt_}
 use Rattle.message.specs.View.{message}
 use Rattle.answers.specs.declared.Answer.{Answer}
-use Rattle.agreement.specs.Calls.{Call, initialize, initiate, kill, receive, expire, write, Entry, left, done, isInitialize, mine, tableOf}
+use Rattle.agreement.specs.Calls.{Call, initialize, initiate, kill, receive, expire, write, fill, Entry, left, done, isInitialize, mine, tableOf}
 
 -- a pair, as one end has it
 pub record Pair : Type 0 where
@@ -64,6 +64,7 @@ isStart (kill address) = false
 isStart (receive address time frame fresh expected verdict) = false
 isStart (expire time) = false
 isStart (write w) = false
+isStart fill = false
 
 abbrev pub isFrame : Call → Bool
 isFrame (initialize size buffer own settings) = false
@@ -72,6 +73,7 @@ isFrame (kill address) = false
 isFrame (receive address time frame fresh expected verdict) = true
 isFrame (expire time) = false
 isFrame (write w) = false
+isFrame fill = false
 
 -- the frame of a frame call, and the stock of a start or a frame call
 abbrev pub frameOf : Call → List ℕ
@@ -81,6 +83,7 @@ frameOf (kill address) = []
 frameOf (receive address time frame fresh expected verdict) = frame
 frameOf (expire time) = []
 frameOf (write w) = []
+frameOf fill = []
 
 abbrev pub stockOf : Call → List ℕ
 stockOf (initialize size buffer own settings) = []
@@ -89,6 +92,7 @@ stockOf (kill address) = []
 stockOf (receive address time frame fresh expected verdict) = fresh
 stockOf (expire time) = []
 stockOf (write w) = []
+stockOf fill = []
 
 -- the stock as commits: one of the same width for each listed group
 abbrev pub stockIn : List ℕ → Call → List (List ℕ)
@@ -206,6 +210,7 @@ clears (kill address) = true
 clears (receive address time frame fresh expected verdict) = false
 clears (expire time) = false
 clears (write w) = false
+clears fill = false
 
 unfoldable pub cleared : Story → Story
 cleared s = record { fresh = s .fresh; pair = s .pair; running = false; stands = false; link = unlinked; runs = s .runs }

@@ -16,7 +16,7 @@ use Rattle.octets.proofs.Laws.{length-part, bytes-part, bytes-append}
 use Rattle.octets.proofs.Scan.{clash, and-left, and-right, and-both, first-at}
 use Rattle.octets.proofs.Tests.{zero-zeros, same-address-refl}
 use Rattle.groups.specs.Groups.{width, listed, commitLength, scalarLength, elementLength, freshOf, freshAt, tailsOk, freshOk}
-use Rattle.groups.proofs.Laws.{commit-fits, stored-length, stored-tail, stored-bytes}
+use Rattle.groups.proofs.Laws.{commit-fits, stored-length, stored-tail, stored-bytes, bytes-zeros}
 use Rattle.frame.specs.Frame.{readBody, groupOf, tokenOf, scalarOf, elementOf, commitOf}
 use Rattle.frame.specs.declared.Body.{Body}
 use Rattle.frame.specs.declared.Body.the-variants as body
@@ -205,11 +205,6 @@ module _ (gs frame : List ℕ) (b : Bytes frame) where
   pub viewed : Viewed gs frame (view gs frame)
   unfolding view
   viewed = viewed-by (readBody gs frame) refl
-
-bytes-zeros : (n : ℕ) → Bytes (replicate n 0)
-bytes-zeros zero i = lit< tt
-bytes-zeros (suc n) zero = lit< tt
-bytes-zeros (suc n) (suc i) = bytes-zeros n i
 
 -- a commit as it is stored
 module _ (s : List ℕ) (g n : ℕ) where

@@ -47,33 +47,36 @@ stays-itself : (t : List ℕ) → Bytes t → sound t ≡ true → Stays t t
 stays-itself t b s = record { sound = s; bytes = b; own = refl; groups = refl; width = refl; period = refl; limit = refl }
 
 module _ (t b u : List ℕ) (K : Keeping t b u) where
-  header-part : (at n : ℕ) → at + n ≤ 26 → part u (6 + at) n ≡ part t (6 + at) n
-  header-part at n h = sym (part-part u 6 26 at n h) ∙ ap (λ (s : List ℕ). part s at n) (K .back) ∙ part-part t 6 26 at n h
+  back-part : (at n : ℕ) → at + n ≤ 18 → part u (14 + at) n ≡ part t (14 + at) n
+  back-part at n h = sym (part-part u 14 18 at n h) ∙ ap (λ (s : List ℕ). part s at n) (K .back) ∙ part-part t 14 18 at n h
+
+  middle-part : (at n : ℕ) → at + n ≤ 6 → part u (6 + at) n ≡ part t (6 + at) n
+  middle-part at n h = sym (part-part u 6 6 at n h) ∙ ap (λ (s : List ℕ). part s at n) (K .middle) ∙ part-part t 6 6 at n h
 
   own-kept : decodeTable u .header .own ≡ decodeTable t .header .own
   unfolding decodeTable decodeHeader headerOf cut headerWidths
-  own-kept = header-part 10 6 (omega arith)
+  own-kept = back-part 2 6 (omega arith)
 
   groups-kept : groupsOf (decodeTable u .header) ≡ groupsOf (decodeTable t .header)
   unfolding decodeTable decodeHeader headerOf cut headerWidths
   groups-kept =
-      let c : part u 22 1 ≡ part t 22 1 = header-part 16 1 (omega arith) in
-      let g : part u 24 2 ≡ part t 24 2 = header-part 18 2 (omega arith) in
-      let h : part u 26 2 ≡ part t 26 2 = header-part 20 2 (omega arith) in
-      let i : part u 30 2 ≡ part t 30 2 = header-part 24 2 (omega arith) in
+      let c : part u 22 1 ≡ part t 22 1 = back-part 8 1 (omega arith) in
+      let g : part u 24 2 ≡ part t 24 2 = back-part 10 2 (omega arith) in
+      let h : part u 26 2 ≡ part t 26 2 = back-part 12 2 (omega arith) in
+      let i : part u 30 2 ≡ part t 30 2 = back-part 16 2 (omega arith) in
       rw (c, g, h, i)
 
   width-kept : widthIn (decodeTable u .header) ≡ widthIn (decodeTable t .header)
   unfolding decodeTable decodeHeader headerOf cut headerWidths
-  width-kept = let e : part u 6 2 ≡ part t 6 2 = header-part 0 2 (omega arith) in rw e
+  width-kept = let e : part u 6 2 ≡ part t 6 2 = middle-part 0 2 (omega arith) in rw e
 
   period-kept : periodOf (decodeTable u .header .settings .period) ≡ periodOf (decodeTable t .header .settings .period)
   unfolding decodeTable decodeHeader headerOf cut headerWidths
-  period-kept = let e : part u 14 2 ≡ part t 14 2 = header-part 8 2 (omega arith) in rw e
+  period-kept = let e : part u 14 2 ≡ part t 14 2 = back-part 0 2 (omega arith) in rw e
 
   limit-kept : limitOf (decodeTable u .header .settings .limit) ≡ limitOf (decodeTable t .header .settings .limit)
   unfolding decodeTable decodeHeader headerOf cut headerWidths
-  limit-kept = let e : part u 23 1 ≡ part t 23 1 = header-part 17 1 (omega arith) in rw e
+  limit-kept = let e : part u 23 1 ≡ part t 23 1 = back-part 9 1 (omega arith) in rw e
 
   keeping-stays : Stays t u
   keeping-stays =

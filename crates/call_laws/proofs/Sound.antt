@@ -13,15 +13,16 @@ use Rattle.octets.specs.Octets.{Bytes, part, sameAddress}
 use Rattle.octets.specs.declared.Found.{Found}
 use Rattle.octets.specs.declared.Found.the-variants as found
 use Rattle.octets.proofs.Scan.{clash, cases}
-use Rattle.record.specs.declared.Counts.{Counts}
 use Rattle.record.specs.declared.Settings.{Settings}
 use Rattle.record.specs.Layout.{recordSize, recordAt, formOf}
 use Rattle.record.proofs.Laws.{shape-peer, record-below}
 use Rattle.table.specs.Table.{widthOf, decodeTable, slot, slots, inUse, belongs, look, placed, sound}
 use Rattle.table.specs.Initial.{initialOk}
+use Rattle.table.specs.GoodLinks.{filled, fills}
 use Rattle.table.proofs.Laws.{entry-at, found-below, sound-whole, free-below-law}
 use Rattle.table.proofs.Kept.{sound-form}
-use Rattle.table.proofs.Octets.{after-header, placed-outside}
+use Rattle.table.proofs.GoodLinks.{fills-leave}
+use Rattle.table.proofs.Octets.{Elsewhere, before-counts, between-counts, before-record, past-record, after-header, placed-outside}
 use Rattle.table.proofs.Initial.{FitSettings, initial-served, initial-sound, initial-refused}
 use Rattle.rules.specs.Book.{Step}
 use Rattle.answers.specs.declared.Refusal.{Refusal}
@@ -41,6 +42,10 @@ use Rattle.call_laws.proofs.Good.{initiate-good, kill-good, receive-goo
 pub sound-table : (t : List ℕ) → sound t ≡ true → SoundTable t
 sound-table t s = let f = sound-form t s in record { sound = s; counts = f .counts }
 
+-- A FILL that is not refused leaves a sound table, whose counts are true
+pub fill-sound : (t : List ℕ) → sound (filled t) ≡ true → SoundTable (fills t)
+fill-sound t s = sound-table (fills t) (fills-leave t s)
+
 -- ---- what a call leaves: a sound table, every other address's record, and every other record's octets
 
 pub record Keeping (t a u : List ℕ) : Type 0 where
@@ -52,12 +57,13 @@ pub record Keeping (t a u : List ℕ) : Type 0 where
   -- every other record has the octets that it had, in the slot that it had
   pub octets : (j : ℕ) → j < slots (decodeTable t) → inUse (slot (decodeTable t) j) ≡ true → belongs a (slot (decodeTable t) j) ≡ false
       → part u (recordAt (widthOf t) j) (recordSize (widthOf t)) ≡ part t (recordAt (widthOf t) j) (recordSize (widthOf t))
-  -- the header has the octets that it had, but for the two counts
+  -- the header has the octets that it had, but for the three counts
   pub front : part u 0 2 ≡ part t 0 2
-  pub back : part u 6 26 ≡ part t 6 26
+  pub middle : part u 6 6 ≡ part t 6 6
+  pub back : part u 14 18 ≡ part t 14 18
 
 keeps-all : (t a : List ℕ) → Bytes t → sound t ≡ true → Keeping t a t
-keeps-all t a b s = record { table = sound-table t s; bytes = b; elsewhere = λ c n. refl; octets = λ j l u n. refl; front = refl; back = refl }
+keeps-all t a b s = record { table = sound-table t s; bytes = b; elsewhere = λ c n. refl; octets = λ j l u n. refl; front = refl; middle = refl; back = refl }
 
 -- the slot that is written is not another record's
 module _ (t a : List ℕ) (j : ℕ) (u : inUse (slot (decodeTable t) j) ≡ true) (n : belongs a (slot (decodeTable t) j) ≡ false) where
@@ -72,7 +78,7 @@ module _ (t a : List ℕ) (j : ℕ) (u : inUse (slot (decodeTable t) j) ≡ true
 module _ (t a : List ℕ) (b : Bytes t) (f : Found) (s : Step) (G : Good t a f s) where
   -- what is not the record's slot nor a count stays
   finish-outside : (at m : ℕ)
-      → ((k : ℕ) → k < slots (decodeTable t) → Sits (decodeTable t) k f → ((at + m ≤ 2) ⊎ ((6 ≤ at) × (at + m ≤ recordAt (widthOf t) k))) ⊎ (recordAt (widthOf t) k + recordSize (widthOf t) ≤ at))
+      → ((k : ℕ) → k < slots (decodeTable t) → Sits (decodeTable t) k f → Elsewhere (recordAt (widthOf t) k) (recordSize (widthOf t)) at m)
       → part (finishes t f s a .table) at m ≡ part t at m
   unfolding finishes finishAt ends placed
   finish-outside at m w = go (s .refused) (seating (decodeTable t) f) refl
@@ -83,27 +89,27 @@ module _ (t a : List ℕ) (b : Bytes t) (f : Found) (s : Step) (G : Good t a f s
           let i = sits (decodeTable t) f k v in
           let S = entered-seated t a f (G .came) in
           let l = sits-below t f k S i in
-          placed-outside t (slots (decodeTable t)) k (s .peer) b (sound-whole t (S .whole)) l (shape-peer (G .fits))
-          (ap (λ (n : Counts). n .spare) (sound-form t (S .whole) .counts)) at m (w k l i)
+          placed-outside t (slots (decodeTable t)) k (s .peer) b (sound-whole t (S .whole)) l (shape-peer (G .fits)) at m (w k l i)
       go false found.Nothing v = ap (λ (u : List ℕ). part u at m) (unchanged-ends (said s a) t b (entered-seated t a f (G .came) .whole))
 
   finish-octets : (j : ℕ) → j < slots (decodeTable t) → inUse (slot (decodeTable t) j) ≡ true → belongs a (slot (decodeTable t) j) ≡ false
       → part (finishes t f s a .table) (recordAt (widthOf t) j) (recordSize (widthOf t)) ≡ part t (recordAt (widthOf t) j) (recordSize (widthOf t))
   finish-octets j l u n = finish-outside (recordAt (widthOf t) j) (recordSize (widthOf t)) (λ k h i. apart k j (other-slot t a j u n f k (G .came) i))
     where
-      apart : (k j : ℕ) → (j ≡ k → ⊥)
-          → ((recordAt (widthOf t) j + recordSize (widthOf t) ≤ 2) ⊎ ((6 ≤ recordAt (widthOf t) j) × (recordAt (widthOf t) j + recordSize (widthOf t) ≤ recordAt (widthOf t) k)))
-          ⊎ (recordAt (widthOf t) k + recordSize (widthOf t) ≤ recordAt (widthOf t) j)
+      apart : (k j : ℕ) → (j ≡ k → ⊥) → Elsewhere (recordAt (widthOf t) k) (recordSize (widthOf t)) (recordAt (widthOf t) j) (recordSize (widthOf t))
       apart k j d = elim (cases (ltb j k)) [
-        | inl h ↦ let w : j < k = ltb-true j k h in inl (inr (omega (arith, after-header (widthOf t) j), record-below (widthOf t) j k w))
-        | inr h ↦ let w : k ≤ j = ltb-false j k h in let v : k < j = omega (arith, w, d) in inr (record-below (widthOf t) k j v)
+        | inl h ↦ let w : j < k = ltb-true j k h in before-record (omega (arith, after-header (widthOf t) j)) (record-below (widthOf t) j k w)
+        | inr h ↦ let w : k ≤ j = ltb-false j k h in let v : k < j = omega (arith, w, d) in past-record (record-below (widthOf t) k j v)
       ]
 
   finish-front : part (finishes t f s a .table) 0 2 ≡ part t 0 2
-  finish-front = finish-outside 0 2 (λ k h i. inl (inl (omega arith)))
+  finish-front = finish-outside 0 2 (λ k h i. before-counts (omega arith))
 
-  finish-back : part (finishes t f s a .table) 6 26 ≡ part t 6 26
-  finish-back = finish-outside 6 26 (λ k h i. inl (inr (omega arith, omega (arith, after-header (widthOf t) k))))
+  finish-middle : part (finishes t f s a .table) 6 6 ≡ part t 6 6
+  finish-middle = finish-outside 6 6 (λ k h i. between-counts (omega arith) (omega arith))
+
+  finish-back : part (finishes t f s a .table) 14 18 ≡ part t 14 18
+  finish-back = finish-outside 14 18 (λ k h i. before-record (omega arith) (omega (arith, after-header (widthOf t) k)))
 
   finish-keeps : Finished t a s (finishes t f s a) → Keeping t a (finishes t f s a .table)
   finish-keeps F = record {
@@ -112,6 +118,7 @@ module _ (t a : List ℕ) (b : Bytes t) (f : Found) (s : Step) (G : Good t a f s
     elsewhere = F .elsewhere;
     octets = finish-octets;
     front = finish-front;
+    middle = finish-middle;
     back = finish-back;
   }
 

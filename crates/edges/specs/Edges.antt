@@ -47,7 +47,7 @@ emptyWith size count groups period limit =
     record {
       header = record {
         geometry = record { slots = 8; size = size; first = 32 };
-        counts = record { used = 0; opened = 0; spare = 0 };
+        counts = record { used = 0; opened = 0; good = 0 };
         spare = 0;
         own = own;
         settings = record { count = count; groups = groups; threshold = 5; period = period; limit = limit };

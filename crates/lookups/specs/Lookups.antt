@@ -1,12 +1,14 @@
--- THE LOOKUPS: what a host asks of a table that stays as it is. How long until the clock call is wanted next; where the record of an address lies.
+-- THE LOOKUPS: what a host asks of a table that stays as it is. How long until the clock call is wanted next; where the record of an address lies; how many
+-- good links.
 use Prim.Native.Nat.{ℕ, zero, suc, _+_, _-_, _%_, _^_}
 use mathlib.Core.Bool.{Bool}
 use mathlib.Core.List.{List}
 use lib.Dec.{ltb}
 use Rattle.octets.specs.Scan.{if_then_else_}
 use Rattle.record.specs.declared.Peer.{Peer}
-use Rattle.record.specs.Layout.{recordAt}
+use Rattle.record.specs.Layout.{decodeHeader, recordAt}
 use Rattle.table.specs.Table.{Table, widthOf, decodeTable, slots, slot, sound, entry}
+use Rattle.table.specs.GoodLinks.{possible}
 use Rattle.table.specs.declared.Entry.{Entry}
 use Rattle.table.specs.declared.Entry.the-variants.{Unsound, Unusable, Absent, At}
 use Rattle.rules.specs.Book.{due, hasRun, hasLink}
@@ -68,3 +70,8 @@ offsetBy (At k) W = asked.Number (recordAt W k)
 
 unfoldable pub asksOffset : List ℕ → List ℕ → Asked
 asksOffset t address = offsetBy (entry t address) (widthOf t)
+
+-- ---- how many good links: "The panel's question reads the 32 header octets alone"; cause 2, "exactly when it is not given 32 octets or no sound table starts with them"
+
+unfoldable pub asksGood : List ℕ → Asked
+asksGood header = if possible header then asked.Number (decodeHeader header .counts .good) else asked.Refused why.Unsound

@@ -1,12 +1,13 @@
-// The lookups: what a host asks of a table that stays as it is: how long until the next deadline, and where a record lies.
+// The lookups: what a host asks of a table that stays as it is: how long until the next deadline, where a record lies, and how many good links.
 ghost use mathlib.Core.Path.{_≡_};
 ghost use Prim.Native.Nat.{_≤_};
 ghost use lib.ListN.{length};
 ghost use Rattle.groups.specs.Groups.{width};
 ghost use Rattle.record.specs.Layout.{decodePeer, recordSize};
 ghost use Rattle.table.specs.Table.{decodeTable, slot, Reaches, Reached};
-ghost use Rattle.lookups.specs.Lookups.{timeLeft, leftIf, lesser, peerLeft, leastBelow, asksDeadline, asksOffset};
+ghost use Rattle.lookups.specs.Lookups.{timeLeft, leftIf, lesser, peerLeft, leastBelow, asksDeadline, asksOffset, asksGood};
 use answers::Refusal;
+use record::HEADER;
 use table::Entry;
 
 // All ones: there is no deadline.
@@ -124,4 +125,20 @@ pub fn find(t: &[u8], address: [u8; 6]) -> Asked
             Asked::Number(at as u32)
         }
     }
+}
+
+// ---- how many good links
+
+// The number of good links, from the octets of a header alone. Cause 2.
+pub fn good_links(header: &[u8]) -> Asked
+    ensures { λ r. ⌜ r ≡ asksGood (now (header .entry)) ⌝ }
+{
+    if header.len() != HEADER {
+        return Asked::Refused(Refusal::Unsound);
+    }
+    let h = table::header_of(header);
+    if !table::is_possible(h) {
+        return Asked::Refused(Refusal::Unsound);
+    }
+    Asked::Number(h.counts.good as u32)
 }

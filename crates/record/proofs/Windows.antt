@@ -59,6 +59,10 @@ module _ (W : ℕ) (s : List ℕ) where
   unfolding decodeLink linkOf linkWidths cut
   finished-law a e = link-number W s a 0 1 (λ l. l .finished) (λ l. refl) (omega arith) e
 
+  pub superseded-law : (a : ℕ) → a ≡ linkAt W → decodePeer W s .link .superseded ≡ num (part s (a + 1) 1)
+  unfolding decodeLink linkOf linkWidths cut
+  superseded-law a e = link-number W s a 1 1 (λ l. l .superseded) (λ l. refl) (omega arith) e
+
   pub link-sync-law : (a : ℕ) → a ≡ linkAt W → decodePeer W s .link .sync ≡ num (part s (a + 2) 1)
   unfolding decodeLink linkOf linkWidths cut
   link-sync-law a e = link-number W s a 2 1 (λ l. l .sync) (λ l. refl) (omega arith) e

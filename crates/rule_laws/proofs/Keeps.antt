@@ -6,7 +6,7 @@ use mathlib.Core.Logic.{inl, inr}
 use Prim.Native.Nat.{ℕ, zero, suc, _+_, _-_, _*_, _/_, _%_, _^_, _≤_, _<_}
 use native.Mathlib.Omega.{arith}
 use native.Mathlib.Decide.{ℕ-discrete}
-use native.Mathlib.Nat.{mod-lt, zero-div, one-le-pow, div-lt-iff-lt-mul, mul-comm, lt-div-mul-add, mul-le-mul-right, add-mul, pow-suc}
+use native.Mathlib.Nat.{mod-lt, div-lt-iff-lt-mul, mul-comm, lt-div-mul-add, mul-le-mul-right, add-mul, pow-suc}
 use lib.Pow.{pow-add}
 use lib.Dec.{eqb, lit<, lit≤}
 use lib.ListN.{length, drop, getD, replicate, length-replicate}
@@ -19,7 +19,7 @@ use Rattle.octets.proofs.Laws.{bytes-part}
 use Rattle.octets.proofs.Scan.{clash, and-left, and-right}
 use Rattle.octets.proofs.Tests.{zero-zeros}
 use Rattle.groups.specs.Groups.{width, known, listed, freshOf, freshAt, freshFor, indexOf, place, placeFrom, placeOr0, mark, marked}
-use Rattle.groups.proofs.Laws.{stored-bytes, room-in, chosen, place-at, listed-place}
+use Rattle.groups.proofs.Laws.{stored-bytes, none-marked, pow-pos, room-in, chosen, place-at, listed-place}
 use Rattle.groups.proofs.Fresh.{fresh-part, fresh-width}
 use Rattle.record.specs.declared.Run.{Run}
 use Rattle.record.specs.declared.Link.{Link}
@@ -185,14 +185,6 @@ known-fits g e = elim (ℕ-discrete g 19) [
 
 pub group-fits : (gs : List ℕ) (g : ℕ) → Lists gs → listed gs g ≡ true → g < 65536
 group-fits gs g l e = known-fits g (l .known g e)
-
--- no group is marked at first
-none-marked : (i : ℕ) → marked 0 i ≡ false
-unfolding marked
-none-marked i = rw (zero-div (2 ^ i)) refl
-
-pow-pos : (n : ℕ) → 0 < 2 ^ n
-pow-pos n = one-le-pow n 2 (lit< tt)
 
 -- as many groups as bits
 pow-few : (n : ℕ) → n ≤ 8 → 2 ^ n ≤ 256

@@ -11,6 +11,7 @@ use Rattle.octets.specs.Octets.{Bytes}
 use Rattle.octets.proofs.Scan.{clash}
 use Rattle.octets.proofs.Tests.{zero-zeros}
 use Rattle.groups.specs.Groups.{width, listed}
+use Rattle.groups.proofs.Laws.{bytes-zeros}
 use Rattle.record.specs.declared.Peer.{Peer}
 use Rattle.soundness.proofs.Laws.{run-states, run-is-committed, link-is-finished}
 use Rattle.rules.specs.Message.{Message}
@@ -21,11 +22,6 @@ use Rattle.rules.specs.Asked.{NoRun, Asked, refuse-group, ask-token, no-slot, b
 use Rattle.rules.proofs.Ladders.{start-asked, commit-asked, confirm-asked, frame-asked, clock-asked}
 use Rattle.rule_laws.proofs.Outcomes.{repeat-outcomes}
 use Rattle.rule_laws.proofs.Keeps.{Place, Lists, Stored, Stock, Heard, Kept, Keeps, parts, listed-at, fresh-stored, heard-stored, answer-keeps, abandon-keeps, end-keeps, form-keeps, accept-keeps, hear-keeps, same-keeps, raised-keeps, start-keeps, switch-keeps, reply-keeps}
-
-bytes-zeros : (n : ℕ) → Bytes (replicate n 0)
-bytes-zeros zero i = lit< tt
-bytes-zeros (suc n) zero = lit< tt
-bytes-zeros (suc n) (suc i) = bytes-zeros n i
 
 -- what a call hands over
 pub record Handed (t : Terms) (c : Call) (m : Message) : Type 0 where

@@ -32,9 +32,10 @@ use Rattle.frame.proofs.Laws.{length-body}
 use Rattle.frame.proofs.Wrote.{CommitParts, commit-parts, TokenRequestParts, token-request-parts, group-refusal-parts, ConfirmParts, confirm-parts}
 use Rattle.record.specs.declared.Peer.{Peer}
 use Rattle.table.specs.Table.{decodeTable, sound, Looked}
+use Rattle.table.specs.GoodLinks.{filled, fills}
 use Rattle.table.proofs.Laws.{looked-sound, looked-header}
 use Rattle.answers.specs.declared.Answer.{Answer}
-use Rattle.answers.specs.Answers.{Left, Leaves, returned, refused}
+use Rattle.answers.specs.Answers.{Left, Leaves, returned, number, refused}
 use Rattle.answers.specs.declared.Refusal.{Refusal}
 use Rattle.answers.specs.declared.Refusal.the-variants as why
 use Rattle.calls.specs.Calls.{initializes, initializesFrom}
@@ -44,7 +45,7 @@ use Rattle.writer.specs.Writer.{LeftOut, LeavesOut, writesParts, recordCommit, 
 use Rattle.writer.proofs.Theorems.{Draws, outside, short, whole, FromParts, malformed, made, FromRecord, unsound, unusable, absent, drawn, parts-one, record-one}
 use Rattle.lookups.specs.declared.Asked.{Asked}
 use Rattle.lookups.specs.Lookups.{askedReturned}
-use Rattle.sae.specs.Interface.{noneDueFlag, frameOctets, framedOctets, framesOctets, answerOctets, isRefused, answerLeft, Returns, hasToken, hasValue, handedAt, handedLength, restAt, partsOctets, readNumber, readParts, Reads, wroteNumber, writtenLeft, Counted, Writes, askedLeft, Asks}
+use Rattle.sae.specs.Interface.{noneDueFlag, frameOctets, framedOctets, framesOctets, answerOctets, isRefused, answerLeft, Returns, hasToken, hasValue, handedAt, handedLength, restAt, partsOctets, readNumber, readParts, Reads, wroteNumber, writtenLeft, Counted, Writes, askedLeft, Asks, fillNumber, Fills}
 
 -- ---- octets, one store for each field
 
@@ -365,3 +366,12 @@ wrote-replied w u l r n given e q k = record { returns = q ∙ ap wroteNumber (e
 
 pub asked-replied : (a x : Asked) (r left given : ℕ) → a ≡ x → (r ≡ askedReturned a) × (left ≡ askedLeft a given) → Asks r left given x
 asked-replied a x r left given e w = record { returns = w .0 ∙ ap askedReturned e; leaves = w .1 ∙ ap (λ (y : Asked). askedLeft y given) e }
+
+-- what `sae_fill` shows
+pub fill-done : (t u : List ℕ) (b : Bool) → (b ≡ sound (filled t)) × (u ≡ fills t) → b ≡ true → Fills 0 u t
+unfolding fillNumber
+fill-done t u b e q = let z : sound (filled t) ≡ true = sym (e .0) ∙ q in record { returns = rw z; leaves = e .1 }
+
+pub fill-not : (t u : List ℕ) (b : Bool) (r : ℕ) → (b ≡ sound (filled t)) × (u ≡ fills t) → b ≡ false → r ≡ number why.Unsound → Fills r u t
+unfolding fillNumber
+fill-not t u b r e q n = let z : sound (filled t) ≡ false = sym (e .0) ∙ q in record { returns = rw z n; leaves = e .1 }

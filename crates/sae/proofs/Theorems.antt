@@ -16,6 +16,7 @@ use Rattle.rules.specs.Book.{_is_, Step}
 use Rattle.message.specs.View.{view}
 use Rattle.record.specs.declared.Form.{Form}
 use Rattle.table.specs.Table.{decodeTable, sound}
+use Rattle.table.specs.GoodLinks.{filled, fills}
 use Rattle.table.specs.Initial.{slotsFor, initialOk, initialTable}
 use Rattle.answers.specs.declared.Answer.{Answer}
 use Rattle.answers.specs.declared.Outcome.{Outcome}
@@ -32,7 +33,7 @@ use Rattle.writer.specs.Writer.{LeftOut, writesParts, writesRecord}
 use Rattle.writer.proofs.Theorems.{parts-refused, record-refused}
 use Rattle.lookups.specs.declared.Asked.{Asked}
 use Rattle.lookups.specs.declared.Asked.the-variants as asked
-use Rattle.sae.specs.Interface.{answerLeft, Returns, readNumber, readParts, partsOctets, Reads, wroteNumber, writtenLeft, Writes, Asks}
+use Rattle.sae.specs.Interface.{answerLeft, Returns, readNumber, readParts, partsOctets, Reads, wroteNumber, writtenLeft, Writes, Asks, fillNumber, Fills}
 
 -- ---- calls
 
@@ -141,3 +142,13 @@ write-record-refused t a q value out left r written given e d = write-refused _ 
 pub ask-refused : (a : Asked) (r left given : ℕ) → Asks r left given a → (r ≡ 0 → ⊥) → left ≡ given
 ask-refused (asked.Number n) r left given e d = absurd (d (e .returns))
 ask-refused (asked.Refused c) r left given e d = e .leaves
+
+-- ---- the fill
+
+pub fill-refused : (r : ℕ) (left given : List ℕ) → Fills r left given → (r ≡ 0 → ⊥) → left ≡ given
+unfolding fillNumber fills
+fill-refused r left given e d = go (sound (filled given)) (e .returns) (e .leaves)
+  where
+    go : (b : Bool) → r ≡ (if b then 0 else 2) → left ≡ (if b then filled given else given) → left ≡ given
+    go true n l = absurd (d n)
+    go false n l = l

@@ -15,9 +15,11 @@ use Rattle.rules.specs.declared.Frames.the-variants as frames
 use Rattle.message.specs.declared.View.{View}
 use Rattle.message.specs.View.{view}
 use Rattle.table.specs.Table.{decodeTable, sound}
+use Rattle.table.specs.GoodLinks.{filled, fills}
 use Rattle.answers.specs.declared.Outcome.{Outcome}
 use Rattle.answers.specs.declared.Outcome.the-variants as outcome
 use Rattle.answers.specs.declared.Answer.{Answer}
+use Rattle.answers.specs.declared.Refusal.the-variants as why
 use Rattle.answers.specs.Answers.{Left, returned, number}
 use Rattle.writer.specs.declared.Wrote.{Wrote}
 use Rattle.writer.specs.declared.Wrote.the-variants as wrote
@@ -133,3 +135,12 @@ askedLeft (asked.Refused c) old = old
 pub record Asks (r left given : ℕ) (a : Asked) : Type 0 where
   pub returns : r ≡ askedReturned a
   pub leaves : left ≡ askedLeft a given
+
+-- ---- a fill's whole outcome: the number returned, and the table at exit
+
+unfoldable pub fillNumber : List ℕ → ℕ
+fillNumber t = if sound (filled t) then 0 else number why.Unsound
+
+pub record Fills (r : ℕ) (left given : List ℕ) : Type 0 where
+  pub returns : r ≡ fillNumber given
+  pub leaves : left ≡ fills given

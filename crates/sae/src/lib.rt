@@ -1,4 +1,4 @@
-// The C interface: what firmware links. Thin over engine, writer, lookups, message and frame. Every function returns 0 or the number of a refusal, and on a
+// The C interface: what firmware links. Thin over engine, table, writer, lookups, message and frame. Every function returns 0 or the number of a refusal, and on a
 // refusal leaves every lent octet, the answer and the number asked for too.
 ghost use mathlib.Core.Path.{_≡_};
 ghost use Prim.Native.Nat.{_≤_};
@@ -9,8 +9,8 @@ ghost use Rattle.rules.specs.Book.{eventNumber};
 ghost use Rattle.answers.specs.Answers.{Leaves, returned};
 ghost use Rattle.calls.specs.Calls.{initializesFrom, initiates, kills, receives, expires};
 ghost use Rattle.writer.specs.Writer.{writesParts, writesRecord};
-ghost use Rattle.lookups.specs.Lookups.{askedReturned, asksDeadline, asksOffset};
-ghost use Rattle.sae.specs.Interface.{noneDueFlag, frameOctets, framedOctets, framesOctets, answerOctets, isRefused, answerLeft, Returns, hasToken, hasValue, handedAt, handedLength, restAt, partsOctets, Reads, wroteNumber, writtenLeft, Counted, Writes, askedLeft, Asks};
+ghost use Rattle.lookups.specs.Lookups.{askedReturned, asksDeadline, asksOffset, asksGood};
+ghost use Rattle.sae.specs.Interface.{noneDueFlag, frameOctets, framedOctets, framesOctets, answerOctets, isRefused, answerLeft, Returns, hasToken, hasValue, handedAt, handedLength, restAt, partsOctets, Reads, wroteNumber, writtenLeft, Counted, Writes, askedLeft, Asks, Fills};
 use answers::Answer;
 use answers::Outcome;
 use answers::Refusal;
@@ -423,4 +423,24 @@ pub extern "C" fn sae_find(t: &[u8], address: &[u8; 6], offset: &mut u32) -> u32
 {
     let a = lookups::find(t, *address);
     asked_reply(a, offset)
+}
+
+// How many good links, from the 32 octets of a header alone.
+#[no_mangle]
+pub extern "C" fn sae_good_links(header: &[u8], good: &mut u32) -> u32
+    ensures { λ r. ⌜ Asks r (now (good .exit)) (now (good .entry)) (asksGood (now (header .entry))) ⌝ }
+{
+    let a = lookups::good_links(header);
+    asked_reply(a, good)
+}
+
+// Fill the number of good links into a table otherwise sound.
+#[no_mangle]
+pub extern "C" fn sae_fill(t: &mut [u8]) -> u32
+    ensures { λ r. ⌜ Fills r (now (t .exit)) (now (t .entry)) ⌝ }
+{
+    if table::fill_good(t) {
+        return 0;
+    }
+    answers::number_of(Refusal::Unsound)
 }

@@ -14,9 +14,9 @@ use Rattle.record.specs.declared.Counts.{Counts}
 use Rattle.record.specs.declared.Header.{Header}
 use Rattle.record.specs.declared.Peer.{Peer}
 use Rattle.record.proofs.Laws.{header-front, record-below}
-use Rattle.table.specs.Table.{Table, widthOf, peersOf, decodeTable, slot, slots, inUse, isOpen, usedCount, openCount, countsOf, withPeer, recounted, standingOf, Changed, Ready}
+use Rattle.table.specs.Table.{Table, widthOf, peersOf, decodeTable, slot, slots, inUse, isOpen, isGood, usedCount, openCount, goodCount, countsOf, withPeer, recounted, standingOf, Changed, Ready}
 use Rattle.table.proofs.Octets.{next, many, after-header, put-after, put-front}
-use Rattle.table.proofs.Laws.{slot-same, used-stored, open-stored, peers-held}
+use Rattle.table.proofs.Laws.{slot-same, used-stored, open-stored, good-stored, peers-held}
 
 drop-put : (a b : ℕ) (s v : List ℕ) → a ≤ length s → drop a (put s (a + b) v) ≡ put (drop a s) b v
 drop-put a b s v h = ap (drop a) (sym (put-after a b s v)) ∙ drop-at (take a s) _ a (length-take-le a s h)
@@ -71,6 +71,8 @@ changed t u k p g R eg l e =
           (ap (λ (q : Peer). decodeTable t .header .counts .used + bit (inUse q)) s ∙ ap (λ (x : ℕ). x + bit (inUse p)) (ap (λ (n : Counts). n .used) (R .counts)) ∙ used-stored (decodeTable t) k p (R .below) h);
       opened = subst (λ (X : Table). X .header .counts .opened + bit (isOpen (slot X k)) ≡ openCount X + bit (isOpen (slot (decodeTable t) k))) (sym e)
           (ap (λ (q : Peer). decodeTable t .header .counts .opened + bit (isOpen q)) s ∙ ap (λ (x : ℕ). x + bit (isOpen p)) (ap (λ (n : Counts). n .opened) (R .counts)) ∙ open-stored (decodeTable t) k p (R .below) h);
+      good = subst (λ (X : Table). X .header .counts .good + bit (isGood (slot X k)) ≡ goodCount X + bit (isGood (slot (decodeTable t) k))) (sym e)
+          (ap (λ (q : Peer). decodeTable t .header .counts .good + bit (isGood q)) s ∙ ap (λ (x : ℕ). x + bit (isGood p)) (ap (λ (n : Counts). n .good) (R .counts)) ∙ good-stored (decodeTable t) k p (R .below) h);
     }
 
 -- counts that are true stay

@@ -13,7 +13,7 @@ use Rattle.groups.specs.Groups.{width}
 use Rattle.record.specs.declared.Peer.{Peer}
 use Rattle.record.specs.Layout.{widthIn, recordSize, recordAt, noPeer}
 use Rattle.record.proofs.Laws.{FitPeer, StorablePeer, fit-peer, storable-peer, fit-header, form-width}
-use Rattle.table.specs.Table.{Table, widthOf, decodeTable, encodeTable, peersOf, slots, slot, inUse, isOpen, recounted, withPeer, placed, usedCount, openCount}
+use Rattle.table.specs.Table.{Table, widthOf, decodeTable, encodeTable, peersOf, slots, slot, inUse, isOpen, isGood, recounted, withPeer, placed, usedCount, openCount, goodCount}
 use Rattle.table.proofs.Octets.{next, many, Fits, none, more, FitTable, bytes-table}
 
 fit-peers : (W n : ℕ) (s : List ℕ) → W ≤ width → Bytes s → length s ≡ recordSize W * n → Fits W (peersOf W n s)
@@ -38,23 +38,24 @@ fits-set (suc k) (more h i r) f g = more h i (fits-set k r f g)
 
 -- a record that fits, placed in a table that fits
 pub fit-placed : (T : Table) (k : ℕ) (p : Peer) → FitTable T → FitPeer width p → StorablePeer (widthIn (T .header)) p → FitTable (placed T k p)
-unfolding placed recounted withPeer usedCount openCount
-fit-placed T k p f g i =
+unfolding placed recounted withPeer usedCount openCount goodCount
+fit-placed T k p f v i =
     let h = f .header .shape in
     let u : usedCount (withPeer T k p) ≤ slots T = count-le (λ j. inUse (slot (withPeer T k p) j)) (slots T) in
     let o : openCount (withPeer T k p) ≤ slots T = count-le (λ j. isOpen (slot (withPeer T k p) j)) (slots T) in
+    let g : goodCount (withPeer T k p) ≤ slots T = count-le (λ j. isGood (slot (withPeer T k p) j)) (slots T) in
     record {
       header = record {
         shape = record {
           geometry = h .geometry;
-          counts = record { used = omega (arith, u, h .geometry .slots); opened = omega (arith, o, h .geometry .slots); spare = lit< tt };
+          counts = record { used = omega (arith, u, h .geometry .slots); opened = omega (arith, o, h .geometry .slots); good = omega (arith, g, h .geometry .slots) };
           spare = h .spare;
           own = h .own;
           settings = h .settings;
         };
         own = f .header .own;
       };
-      peers = fits-set k (f .peers) g i;
+      peers = fits-set k (f .peers) v i;
     }
 
 -- and its octets are octets

@@ -20,11 +20,11 @@ use Rattle.record.specs.declared.Peer.{Peer}
 use Rattle.record.specs.declared.Header.{Header}
 use Rattle.record.specs.declared.Settings.{Settings}
 use Rattle.groups.specs.Groups.{width}
-use Rattle.record.specs.Layout.{recordSize, recordAt, formOf, noPeer, noRun, encodeHeader, limitOf}
+use Rattle.record.specs.Layout.{recordSize, recordAt, formOf, noPeer, noRun, noLink, encodeHeader, limitOf}
 use Rattle.record.proofs.Laws.{ShapeSettings, StorablePeer, storable-peer, fit-no-peer, no-peer-at, zero-peer, Served, form-width, form-served, served-width, served-slots}
 use Rattle.soundness.specs.Soundness.{ownOk, settingsOk, peerOk}
 use Rattle.soundness.proofs.Laws.{form-header, no-peer-ok}
-use Rattle.table.specs.Table.{octetsOf, encodeTable, decodeTable, slot, slots, inUse, isOpen, belongs, usedCount, openCount, recounted, sound}
+use Rattle.table.specs.Table.{octetsOf, encodeTable, decodeTable, slot, slots, inUse, isOpen, isGood, belongs, usedCount, openCount, goodCount, recounted, sound}
 use Rattle.table.specs.Initial.{made, slotsFor, lengthOk, initialHeader, initialTable, initialOk, initial}
 use Rattle.table.proofs.Octets.{next, Fits, none, more, FitTable, decode-encode, bytes-table}
 use Rattle.table.proofs.Kept.{Form, form-sound}
@@ -53,9 +53,13 @@ not-open : isOpen noPeer ≡ false
 unfolding noPeer noRun
 not-open = refl
 
+not-good : isGood noPeer ≡ false
+unfolding noPeer noLink
+not-good = refl
+
 module _ (f : Kind) (S : Served f) (s : Settings) (own : List ℕ) (n : ℕ) (ok : settingsOk f s ≡ true) (o : ownOk own ≡ true) (some : 1 ≤ n) (few : n ≤ f .slots) where
   pub fresh-form : Form (initialTable f s own n)
-  unfolding initialTable initialHeader usedCount openCount belongs
+  unfolding initialTable initialHeader usedCount openCount goodCount belongs
   fresh-form = record {
     header = form-header (initialHeader f s own n) (record {
       geometry = record { some = some; few = subst (λ (k : Kind). n ≤ k .slots) (sym (S .told)) few; first = refl };
@@ -70,7 +74,8 @@ module _ (f : Kind) (S : Served f) (s : Settings) (own : List ℕ) (n : ℕ) (ok
     counts =
         let u = no-count (λ k. inUse (slot (initialTable f s own n) k)) n (λ k. ap inUse (initial-slot f s own n k) ∙ unused) in
         let o = no-count (λ k. isOpen (slot (initialTable f s own n) k)) n (λ k. ap isOpen (initial-slot f s own n k) ∙ not-open) in
-        λ i. record { used = sym u i; opened = sym o i; spare = 0 };
+        let g = no-count (λ k. isGood (slot (initialTable f s own n) k)) n (λ k. ap isGood (initial-slot f s own n k) ∙ not-good) in
+        λ i. record { used = sym u i; opened = sym o i; good = sym g i };
   }
 
 -- the numbers of the form that set up makes
@@ -82,11 +87,11 @@ made-slots e = ap (λ (f : Kind). f .slots) e
 
 pub made-header : (s : Settings) (own : List ℕ) (n : ℕ) (f : Kind) → f ≡ made
     → _≡_ {A = Header}
-    (record { geometry = record { slots = n; size = f .size; first = 32 }; counts = record { used = 0; opened = 0; spare = 0 }; spare = 0; own = own; settings = s })
+    (record { geometry = record { slots = n; size = f .size; first = 32 }; counts = record { used = 0; opened = 0; good = 0 }; spare = 0; own = own; settings = s })
     (initialHeader made s own n)
 unfolding initialHeader
 made-header s own n f e =
-    λ i. record { geometry = record { slots = n; size = e i .size; first = 32 }; counts = record { used = 0; opened = 0; spare = 0 }; spare = 0; own = own; settings = s }
+    λ i. record { geometry = record { slots = n; size = e i .size; first = 32 }; counts = record { used = 0; opened = 0; good = 0 }; spare = 0; own = own; settings = s }
 
 -- what `length_ok` shows
 pub length-short : (n : ℕ) → n < 32 → false ≡ lengthOk made n
@@ -169,7 +174,7 @@ module _ (f : Kind) (S : Served f) where
     header = record {
       shape = record {
         geometry = record { slots = omega (arith, h, served-slots f S); size = omega (arith, S .made, served-width f S); first = lit< tt };
-        counts = record { used = lit< tt; opened = lit< tt; spare = lit< tt };
+        counts = record { used = lit< tt; opened = lit< tt; good = lit< tt };
         spare = lit< tt;
         own = i .six;
         settings = i .settings;

@@ -19,12 +19,13 @@ use Rattle.octets.proofs.Scan.{cases, clash, and-left, and-right, and-both, all
 use Rattle.record.specs.declared.Peer.{Peer}
 use Rattle.record.specs.declared.Counts.{Counts}
 use Rattle.record.specs.declared.Header.{Header}
+use Rattle.record.specs.declared.Settings.{Settings}
 use Rattle.groups.specs.Groups.{width}
-use Rattle.record.specs.Layout.{widthIn, recordSize, recordAt, groupsOf}
+use Rattle.record.specs.Layout.{widthIn, recordSize, recordAt, groupsOf, counted, limitOf}
 use Rattle.record.proofs.Laws.{record-below}
 use Rattle.soundness.specs.Soundness.{usable, headerOk, highSync, peerOk}
 use Rattle.soundness.proofs.Laws.{header-groups, header-high, header-count, header-slots}
-use Rattle.table.specs.Table.{Table, widthOf, decodeTable, slot, slots, inUse, isOpen, belongs, alone, slotsOk, addressesOk, countsOk, sound, usedCount, openCount, countsOf, finds, freeSlot, entry, foundEntry, withPeer, standingOf, Changed, Ready, Whole, Reaches, Reached, Sized, Looked, Enters}
+use Rattle.table.specs.Table.{Table, widthOf, decodeTable, slot, slots, inUse, isOpen, isGood, belongs, alone, slotsOk, addressesOk, countsAre, countsOk, sound, usedCount, openCount, goodCount, countsOf, finds, freeSlot, entry, foundEntry, withPeer, standingOf, Changed, Ready, Whole, Reaches, Reached, Sized, Looked, Enters}
 use Rattle.table.specs.declared.Entrance.{Entrance}
 use Rattle.table.specs.declared.Standing.{Standing}
 use Rattle.table.specs.declared.Entry.{Entry}
@@ -32,14 +33,14 @@ use Rattle.table.specs.declared.Entry.the-variants as entry-is
 use Rattle.table.proofs.Octets.{many, length-peers}
 
 -- the counts are those of the records, place by place
-pub counts-true : (T : Table) → countsOk T ≡ true → T .header .counts ≡ countsOf T
-unfolding countsOk
-counts-true T ok =
-    let k₁ = and-right (eqb (T .header .counts .used) (usedCount T)) _ ok in
-    let u : T .header .counts .used ≡ usedCount T = eqb-true _ _ (and-left _ _ ok) in
-    let o : T .header .counts .opened ≡ openCount T = eqb-true _ _ (and-left _ _ k₁) in
-    let z : T .header .counts .spare ≡ 0 = eqb-true _ _ (and-right (eqb (T .header .counts .opened) (openCount T)) _ k₁) in
-    λ i. record { used = u i; opened = o i; spare = z i }
+pub counts-true : (T : Table) (n : Counts) → countsAre T n ≡ true → n ≡ countsOf T
+unfolding countsAre
+counts-true T n ok =
+    let k₁ = and-right (eqb (n .used) (usedCount T)) _ ok in
+    let u : n .used ≡ usedCount T = eqb-true _ _ (and-left _ _ ok) in
+    let o : n .opened ≡ openCount T = eqb-true _ _ (and-left _ _ k₁) in
+    let g : n .good ≡ goodCount T = eqb-true _ _ (and-right (eqb (n .opened) (openCount T)) _ k₁) in
+    λ i. record { used = u i; opened = o i; good = g i }
 
 -- what soundness says
 module _ (t : List ℕ) (s : sound t ≡ true) where
@@ -89,7 +90,7 @@ module _ (t : List ℕ) (s : sound t ≡ true) where
     whole = sound-whole;
     below = h;
     small = sound-small;
-    counts = counts-true (decodeTable t) sound-counts;
+    counts = counts-true (decodeTable t) (decodeTable t .header .counts) sound-counts;
   }
 
 -- soundness from its parts
@@ -106,54 +107,84 @@ no-right : (a b : Bool) → false ≡ b → false ≡ (a && b)
 no-right true b e = e
 no-right false b e = refl
 
+no-both : (a b c : Bool) → (a && b) ≡ false → false ≡ (a && (b && c))
+no-both true b c e = no-left b c e
+no-both false b c e = refl
+
 pub not-long : (t : List ℕ) → length t < 32 → false ≡ sound t
 unfolding sound
 not-long t h = no-left _ _ (lt-leb _ _ h)
 
-not-header : (t : List ℕ) → headerOk (decodeTable t .header) ≡ false → false ≡ sound t
-unfolding sound
-not-header t e = no-right (leb 32 (length t)) _ (no-left _ _ e)
+-- the form of the table under its header, with these counts in place of the header's
+unfoldable pub soundWith : List ℕ → Counts → Bool
+soundWith t n =
+    headerOk (decodeTable t .header)
+    && (eqb (length t) (recordAt (widthOf t) (slots (decodeTable t)))
+    && (slotsOk (decodeTable t)
+    && (addressesOk (decodeTable t)
+    && countsAre (decodeTable t) n)))
 
-not-whole : (t : List ℕ) → (length t ≡ recordAt (widthOf t) (slots (decodeTable t)) → ⊥) → false ≡ sound t
-unfolding sound
-not-whole t d = no-right (leb 32 (length t)) _ (no-right (headerOk (decodeTable t .header)) _ (no-left _ _ (ne-eqb _ _ d)))
+pub sound-with : (t : List ℕ) → 32 ≤ length t → soundWith t (decodeTable t .header .counts) ≡ sound t
+unfolding sound soundWith
+sound-with t l = rw (le-leb _ _ l)
 
-body-sound : (t : List ℕ) → 32 ≤ length t → headerOk (decodeTable t .header) ≡ true → length t ≡ recordAt (widthOf t) (slots (decodeTable t))
-    → (slotsOk (decodeTable t) && (addressesOk (decodeTable t) && countsOk (decodeTable t))) ≡ sound t
-unfolding sound
-body-sound t a b d = rw (le-leb _ _ a, b, eq-eqb _ _ d)
+pub sound-by-header : (t : List ℕ) (h : Header) → h ≡ decodeTable t .header → 32 ≤ length t → soundWith t (h .counts) ≡ sound t
+sound-by-header t h e l = ap (λ (g : Header). soundWith t (g .counts)) e ∙ sound-with t l
 
--- the same, from what the callees show
-module _ (t : List ℕ) (h : Header) (e : h ≡ decodeTable t .header) where
-  pub not-header-by : (ok : Bool) → ok ≡ headerOk h → not ok ≡ true → false ≡ sound t
-  not-header-by ok p q = not-header t (ap headerOk (sym e) ∙ sym p ∙ not-true ok q)
+-- what `is_framed` shows
+pub unframed : (h : Header) (ok e : Bool) → ok ≡ headerOk h → not ok ≡ true → false ≡ (headerOk h && e)
+unframed h ok e p q = no-left _ _ (sym p ∙ not-true ok q)
 
-  -- what the header's width and slots come to, worked out from the header handed on
-  by-header : (w n : ℕ) → w ≡ widthIn h → n ≡ recordAt w (h .geometry .slots) → n ≡ recordAt (widthOf t) (slots (decodeTable t))
+pub framed-by : (t : List ℕ) (h : Header) (ok : Bool) (w n : ℕ) → ok ≡ headerOk h → not ok ≡ false → w ≡ widthIn h → n ≡ recordAt w (h .geometry .slots)
+    → eqb (length t) n ≡ (headerOk h && eqb (length t) (recordAt (widthIn h) (h .geometry .slots)))
+framed-by t h ok w n p q ew en =
+    let y : headerOk h ≡ true = sym p ∙ not-false ok q in
+    ap (eqb (length t)) (en ∙ ap (λ (x : ℕ). recordAt x (h .geometry .slots)) ew) ∙ sym (rw y)
+
+-- from what `is_framed` shows of the table's header
+module _ (t : List ℕ) (h : Header) (e : h ≡ decodeTable t .header) (r : Bool) (er : r ≡ (headerOk h && eqb (length t) (recordAt (widthIn h) (h .geometry .slots)))) where
+  unfoldable framed-are : r ≡ (headerOk (decodeTable t .header) && eqb (length t) (recordAt (widthOf t) (slots (decodeTable t))))
   unfolding decodeTable
-  by-header w n ew q = q ∙ ap (λ (x : ℕ). recordAt x (h .geometry .slots)) ew ∙ ap (λ (g : Header). recordAt (widthIn g) (g .geometry .slots)) e
+  framed-are = er ∙ ap (λ (g : Header). headerOk g && eqb (length t) (recordAt (widthIn g) (g .geometry .slots))) e
 
-  pub not-whole-by : (w n : ℕ) → w ≡ widthIn h → n ≡ recordAt w (h .geometry .slots) → (length t ≡ n → ⊥) → false ≡ sound t
-  not-whole-by w n ew q d = not-whole t (λ x. d (x ∙ sym (by-header w n ew q)))
+  pub not-framed : (n : Counts) → not r ≡ true → false ≡ soundWith t n
+  unfolding soundWith
+  not-framed n q = no-both (headerOk (decodeTable t .header)) _ _ (sym framed-are ∙ not-true r q)
 
-  pub whole-by : (ok : Bool) (w n : ℕ) → ok ≡ headerOk h → not ok ≡ false → w ≡ widthIn h → n ≡ recordAt w (h .geometry .slots) → length t ≡ n → Whole t h (h .geometry .slots)
-  whole-by ok w n p q ew en l =
-      let y : headerOk h ≡ true = sym p ∙ not-false ok q in
-      let g = header-groups h y in
-      let c : h .geometry .slots ≡ slots (decodeTable t) = ap (λ (g : Header). g .geometry .slots) e in
-      record {
-        long = rw c (omega (arith, l, by-header w n ew en));
-        header = e;
-        slots = c;
-        few = header-slots h y;
-        some = g .some;
-        most = header-count h y;
-        low = header-high h y;
-      }
+  module _ (q : not r ≡ false) where
+    both : (headerOk (decodeTable t .header) && eqb (length t) (recordAt (widthOf t) (slots (decodeTable t)))) ≡ true
+    both = sym framed-are ∙ not-false r q
 
-  pub body-by : (ok r : Bool) (w n : ℕ) → 32 ≤ length t → ok ≡ headerOk h → not ok ≡ false → w ≡ widthIn h → n ≡ recordAt w (h .geometry .slots) → length t ≡ n
-      → r ≡ (slotsOk (decodeTable t) && (addressesOk (decodeTable t) && countsOk (decodeTable t))) → r ≡ sound t
-  body-by ok r w n l p q ew en k er = er ∙ body-sound t l (ap headerOk (sym e) ∙ sym p ∙ not-false ok q) (k ∙ by-header w n ew en)
+    length-is : length t ≡ recordAt (widthOf t) (slots (decodeTable t))
+    length-is = eqb-true _ _ (and-right (headerOk (decodeTable t .header)) _ both)
+
+    header-is : headerOk h ≡ true
+    header-is = ap headerOk e ∙ and-left _ _ both
+
+    pub framed-length : length t ≡ recordAt (widthOf t) (slots (decodeTable t))
+    framed-length = length-is
+
+    -- a header with other counts than the table's
+    pub framed-whole : (g : Header) → g ≡ counted h (g .counts) → Whole t g (h .geometry .slots)
+    framed-whole g eg =
+        let c : h .geometry .slots ≡ slots (decodeTable t) = ap (λ (g : Header). g .geometry .slots) e in
+        let s : g .settings ≡ h .settings = ap (λ (g : Header). g .settings) eg in
+        record {
+          long = rw c (omega (arith, length-is));
+          header = eg ∙ ap (λ (x : Header). counted x (g .counts)) e;
+          slots = c;
+          few = header-slots h header-is;
+          some = subst (λ (x : Settings). 1 ≤ x .count) (sym s) (header-groups h header-is .some);
+          most = subst (λ (x : Settings). x .count ≤ 3) (sym s) (header-count h header-is);
+          low = subst (λ (x : Settings). limitOf (x .limit) + 1 < 256) (sym s) (header-high h header-is);
+        }
+
+    pub framed-sound : (n : Counts) (b : Bool) → b ≡ (slotsOk (decodeTable t) && (addressesOk (decodeTable t) && countsAre (decodeTable t) n)) → b ≡ soundWith t n
+    unfolding soundWith
+    framed-sound n b eb =
+        let a : headerOk (decodeTable t .header) ≡ true = and-left _ _ both in
+        let d : eqb (length t) (recordAt (widthOf t) (slots (decodeTable t))) ≡ true = eq-eqb _ _ length-is in
+        eb ∙ rw (a, d)
 
 -- ---- fewer than two records in use have no address twice
 
@@ -201,9 +232,9 @@ forms-law t own gs h n high s w eo eg eh es =
     let x : high ≡ highSync (decodeTable t .header) = eh ∙ ap (λ (g : Header). highSync g) (w .header) in
     rw (es, o, g, x, n′) refl
 
-counted-right : (t : List ℕ) (h : Header) (n : ℕ) → Whole t h n → countsOk (decodeTable t) ≡ true → h .counts .used ≡ usedCount (decodeTable t)
-unfolding countsOk
-counted-right t h n w z = ap (λ (g : Header). g .counts .used) (w .header) ∙ eqb-true _ _ (and-left _ _ z)
+counted-right : (T : Table) (n : Counts) → countsAre T n ≡ true → n .used ≡ usedCount T
+unfolding countsAre
+counted-right T n z = eqb-true _ _ (and-left _ _ z)
 
 none : (x : Bool) → (x && false) ≡ false
 none true = refl
@@ -211,15 +242,15 @@ none false = refl
 
 -- what `body_ok` shows: where the count is wrong, the addresses do not tell
 pub body-law : (t own gs : List ℕ) (h : Header) (n high : ℕ) (s a c : Bool) → Whole t h n → own ≡ h .own → gs ≡ groupsOf h → high ≡ highSync h
-    → s ≡ allBelow (λ k. peerOk own gs high (slot (decodeTable t) k)) n → (h .counts .used ≡ usedCount (decodeTable t) → a ≡ addressesOk (decodeTable t)) → c ≡ countsOk (decodeTable t)
-    → (s && (a && c)) ≡ (slotsOk (decodeTable t) && (addressesOk (decodeTable t) && countsOk (decodeTable t)))
-body-law t own gs h n high s a c w eo eg eh es ea ec = ap (λ (x : Bool). x && (a && c)) slots-are ∙ ap (λ (x : Bool). slotsOk (decodeTable t) && x) (go (cases (countsOk (decodeTable t))))
+    → s ≡ allBelow (λ k. peerOk own gs high (slot (decodeTable t) k)) n → (h .counts .used ≡ usedCount (decodeTable t) → a ≡ addressesOk (decodeTable t)) → c ≡ countsAre (decodeTable t) (h .counts)
+    → (s && (a && c)) ≡ (slotsOk (decodeTable t) && (addressesOk (decodeTable t) && countsAre (decodeTable t) (h .counts)))
+body-law t own gs h n high s a c w eo eg eh es ea ec = ap (λ (x : Bool). x && (a && c)) slots-are ∙ ap (λ (x : Bool). slotsOk (decodeTable t) && x) (go (cases (countsAre (decodeTable t) (h .counts))))
   where
     slots-are : s ≡ slotsOk (decodeTable t)
     slots-are = forms-law t own gs h n high s w eo eg eh es
 
-    go : (countsOk (decodeTable t) ≡ true) ⊎ (countsOk (decodeTable t) ≡ false) → (a && c) ≡ (addressesOk (decodeTable t) && countsOk (decodeTable t))
-    go (inl z) = rw (ec, ea (counted-right t h n w z)) refl
+    go : (countsAre (decodeTable t) (h .counts) ≡ true) ⊎ (countsAre (decodeTable t) (h .counts) ≡ false) → (a && c) ≡ (addressesOk (decodeTable t) && countsAre (decodeTable t) (h .counts))
+    go (inl z) = rw (ec, ea (counted-right (decodeTable t) (h .counts) z)) refl
     go (inr z) = rw (ec, z) (none a ∙ sym (none (addressesOk (decodeTable t))))
 
 -- what `find`, `free_slot` and `enter` show
@@ -284,6 +315,10 @@ module _ (T : Table) (k : ℕ) (p : Peer) where
   unfolding openCount withPeer
   open-stored h l = count-stored isOpen h l
 
+  pub good-stored : k < slots T → k < length (T .peers) → goodCount T + bit (isGood p) ≡ goodCount (withPeer T k p) + bit (isGood (slot T k))
+  unfolding goodCount withPeer
+  good-stored h l = count-stored isGood h l
+
 -- the width that a header's form has is the table's
 pub width-told : (t : List ℕ) (h : Header) (w : ℕ) → h ≡ decodeTable t .header → w ≡ widthIn h → w ≡ widthOf t
 unfolding decodeTable
@@ -295,8 +330,9 @@ unfolding decodeTable
 peers-held t n h = length-peers (widthOf t) _ _ ∙ many (widthOf t) n (length t) h
 
 -- what `standing_of` shows
-pub standing-law : (T : Table) (k : ℕ) (u r : Bool) → u ≡ inUse (slot T k) → r ≡ isOpen (slot T k) → _≡_ {A = Standing} (record { used = u; opened = r }) (standingOf (slot T k))
-standing-law T k u r e q = λ i. record { used = e i; opened = q i }
+pub standing-law : (T : Table) (k : ℕ) (u r s : Bool) → u ≡ inUse (slot T k) → r ≡ isOpen (slot T k) → s ≡ isGood (slot T k)
+    → _≡_ {A = Standing} (record { used = u; opened = r; good = s }) (standingOf (slot T k))
+standing-law T k u r s e q v = λ i. record { used = e i; opened = q i; good = v i }
 
 -- what `counts_after` shows: one slot's share is in the count, and the count of the others leaves room for it
 count-has : (f : ℕ → Bool) (n i : ℕ) → i < n → (bit (f i) ≤ countBelow f n) × (countBelow f n + 1 ≤ n + bit (f i))
@@ -330,6 +366,9 @@ module _ (t : List ℕ) (k : ℕ) (h : Header) (was : Standing) (C : Changed t k
   open-now : h .counts .opened + bit (isOpen (slot (decodeTable t) k)) ≡ openCount (decodeTable t) + bit (was .opened)
   open-now = ap (λ (g : Header). g .counts .opened + bit (isOpen (slot (decodeTable t) k))) (C .header) ∙ C .opened
 
+  good-now : h .counts .good + bit (isGood (slot (decodeTable t) k)) ≡ goodCount (decodeTable t) + bit (was .good)
+  good-now = ap (λ (g : Header). g .counts .good + bit (isGood (slot (decodeTable t) k))) (C .header) ∙ C .good
+
   pub share-used : (bit (was .used) ≤ h .counts .used) × (h .counts .used ≤ 64)
   unfolding usedCount
   share-used = share (λ j. inUse (slot (decodeTable t) j)) (slots (decodeTable t)) k (h .counts .used) (was .used) below (C .small) used-now
@@ -338,11 +377,18 @@ module _ (t : List ℕ) (k : ℕ) (h : Header) (was : Standing) (C : Changed t k
   unfolding openCount
   share-open = share (λ j. isOpen (slot (decodeTable t) j)) (slots (decodeTable t)) k (h .counts .opened) (was .opened) below (C .small) open-now
 
+  pub share-good : (bit (was .good) ≤ h .counts .good) × (h .counts .good ≤ 64)
+  unfolding goodCount
+  share-good = share (λ j. isGood (slot (decodeTable t) j)) (slots (decodeTable t)) k (h .counts .good) (was .good) below (C .small) good-now
+
   pub after-used : (is : Bool) (r : ℕ) → is ≡ inUse (slot (decodeTable t) k) → r + bit (was .used) ≡ h .counts .used + bit is → r ≡ usedCount (decodeTable t)
   after-used is r q w = balance r (h .counts .used) _ (was .used) is w (ap (λ (b : Bool). h .counts .used + bit b) q ∙ used-now)
 
   pub after-open : (is : Bool) (r : ℕ) → is ≡ isOpen (slot (decodeTable t) k) → r + bit (was .opened) ≡ h .counts .opened + bit is → r ≡ openCount (decodeTable t)
   after-open is r q w = balance r (h .counts .opened) _ (was .opened) is w (ap (λ (b : Bool). h .counts .opened + bit b) q ∙ open-now)
+
+  pub after-good : (is : Bool) (r : ℕ) → is ≡ isGood (slot (decodeTable t) k) → r + bit (was .good) ≡ h .counts .good + bit is → r ≡ goodCount (decodeTable t)
+  after-good is r q w = balance r (h .counts .good) _ (was .good) is w (ap (λ (b : Bool). h .counts .good + bit b) q ∙ good-now)
 
 -- the slot of a changed record, with the width of the header handed on
 pub changed-reached : (t : List ℕ) (k : ℕ) (h : Header) (was : Standing) (w : ℕ) → Changed t k h was → w ≡ widthIn h → w ≤ width → Reached t w k
@@ -350,8 +396,8 @@ changed-reached t k h was w C e m =
     let z : w ≡ widthOf t = width-told t h w (C .header) e in
     record { told = z; most = m; long = subst (λ (W : ℕ). recordAt W k + recordSize W ≤ length t) (sym z) (C .fits) }
 
-pub after-law : (T : Table) (u o : ℕ) → u ≡ usedCount T → o ≡ openCount T → _≡_ {A = Counts} (record { used = u; opened = o; spare = 0 }) (countsOf T)
-after-law T u o eu eo = λ i. record { used = eu i; opened = eo i; spare = 0 }
+pub after-law : (T : Table) (u o g : ℕ) → u ≡ usedCount T → o ≡ openCount T → g ≡ goodCount T → _≡_ {A = Counts} (record { used = u; opened = o; good = g }) (countsOf T)
+after-law T u o g eu eo eg = λ i. record { used = eu i; opened = eo i; good = eg i }
 
 -- what `slots_of` shows
 pub slots-law : (t : List ℕ) (h : Header) → sound t ≡ true → h ≡ decodeTable t .header → (h .geometry .slots ≡ slots (decodeTable t)) × (recordAt (widthOf t) (h .geometry .slots) ≡ length t)
@@ -368,8 +414,9 @@ record-bound W n h l =
 
 -- the slots below n, and each of them
 pub whole-reaches : (t : List ℕ) (h : Header) (n w : ℕ) → Whole t h n → w ≡ widthIn h → w ≤ width → Reaches t w n
+unfolding decodeTable
 whole-reaches t h n w O e m =
-    let z : w ≡ widthOf t = width-told t h w (O .header) e in
+    let z : w ≡ widthOf t = e ∙ ap widthIn (O .header) in
     record { told = z; most = m; long = subst (λ (W : ℕ). recordAt W n ≤ length t) (sym z) (O .long) }
 
 pub reach : (t : List ℕ) (w n k : ℕ) → Reaches t w n → k < n → Reached t w k

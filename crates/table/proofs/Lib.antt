@@ -6,3 +6,5 @@ pub mod Changed
 pub mod Kept
 pub mod Keys
 pub mod Initial
+pub mod GoodLinks
+pub mod Possible

@@ -1,22 +1,23 @@
 -- The table's octets and the table as a value: the round trips, and a record stored.
 use mathlib.Core.Path.{_≡_, refl, sym, ap, _∙_, subst}
 use mathlib.Core.Logic.{_⊎_, inl, inr}
+use mathlib.Core.Bool.{_&&_}
 use mathlib.Core.List.{List, [], _∷_, _++_, append-assoc}
 use Prim.Native.Nat.{ℕ, zero, suc, _+_, _-_, _*_, _/_, _≤_, _<_}
 use native.Mathlib.Omega.{arith}
 use native.Mathlib.Nat.{mul-suc, mul-zero, mul-comm, le-div-iff-mul-le, mul-div-cancel-left}
+use lib.Dec.{eqb}
 use lib.ListN.{length, take, drop, getD, set, length-append, length-drop, take-append-drop}
 use lib.Seq.{length-take-le, take-at, drop-at, take-add, drop-drop}
 use Rattle.octets.specs.Octets.{part, put, num, oct, Bytes}
-use Rattle.octets.proofs.Laws.{bytes-part, bytes-drop, bytes-append, part-part, length-part, length-put, length-oct, oct-part, put-part, part-put-before, part-put-after}
+use Rattle.octets.proofs.Laws.{bytes-part, bytes-drop, bytes-append, part-part, length-part, length-put, length-oct, part-put-before, part-put-after}
 use Rattle.groups.specs.Groups.{width}
 use Rattle.record.specs.declared.Counts.{Counts}
-use Rattle.record.specs.Layout.{encodePeer, decodePeer, encodeHeader, decodeHeader, headerOf, headerWidths, counted, widthIn, recordSize, recordAt, noPeer}
-use Rattle.record.specs.Codec.{cut}
+use Rattle.record.specs.Layout.{encodePeer, decodePeer, encodeHeader, decodeHeader, counted, widthIn, linkAt, recordSize, recordAt, noPeer}
 use Rattle.record.specs.declared.Peer.{Peer}
 use Rattle.record.proofs.Laws.{enc-dec-peer, dec-enc-peer, ShapePeer, FitPeer, StorablePeer, shape-peer, length-peer, bytes-peer, peer-at, enc-dec-header, dec-enc-header, length-header, bytes-header, header-front, counted-put, num-part, FitHeader, form-width, record-below}
-use Rattle.record.proofs.Windows.{state-law, address-law}
-use Rattle.table.specs.Table.{Table, peersOf, octetsOf, widthOf, decodeTable, encodeTable, slot, recounted, withPeer, placed, usedCount, openCount, countsOf, Reached}
+use Rattle.record.proofs.Windows.{state-law, finished-law, superseded-law, address-law}
+use Rattle.table.specs.Table.{Table, peersOf, octetsOf, widthOf, decodeTable, encodeTable, slot, isGood, recounted, withPeer, placed, usedCount, openCount, goodCount, countsOf, Reached}
 
 -- the record that lies in a slot's octets
 unfoldable pub recordIn : ℕ → List ℕ → ℕ → Peer
@@ -140,6 +141,14 @@ module _ (W : ℕ) (t : List ℕ) (k : ℕ) where
   unfolding recordIn
   state-of = state-law W (part t (recordAt W k) (recordSize W)) ∙ ap num (part-of 7 1 (omega arith))
 
+  finished-of : recordIn W t k .link .finished ≡ num (part t (recordAt W k + (linkAt W + 0)) 1)
+  unfolding recordIn
+  finished-of = finished-law W (part t (recordAt W k) (recordSize W)) (linkAt W) refl ∙ ap num (part-of (linkAt W + 0) 1 (omega arith))
+
+  superseded-of : recordIn W t k .link .superseded ≡ num (part t (recordAt W k + (linkAt W + 1)) 1)
+  unfolding recordIn
+  superseded-of = superseded-law W (part t (recordAt W k) (recordSize W)) (linkAt W) refl ∙ ap num (part-of (linkAt W + 1) 1 (omega arith))
+
 -- STORING A RECORD is `set` on the list of records, and its octets put in the slot's place
 pub with-peer-octets : (t : List ℕ) (n k : ℕ) (p : Peer) → Bytes t → length t ≡ recordAt (widthOf t) n → k < n → ShapePeer width p
     → encodeTable (withPeer (decodeTable t) k p) ≡ put t (recordAt (widthOf t) k) (encodePeer (widthOf t) p)
@@ -151,27 +160,32 @@ with-peer-octets t n k p b h l f =
     (put-after 32 (recordSize (widthOf t) * k) t (encodePeer (widthOf t) p) ∙ ap (λ (a : ℕ). put t a (encodePeer (widthOf t) p)) (behind (widthOf t) k))
 
 counts-put : (T : Table) (n : Counts)
-    → put (put (encodeTable T) 2 (oct 2 (n .used) ++ oct 2 (n .opened))) 12 (oct 2 (n .spare)) ≡ encodeTable (record { header = counted (T .header) n; peers = T .peers })
+    → put (put (encodeTable T) 2 (oct 2 (n .used) ++ oct 2 (n .opened))) 12 (oct 2 (n .good)) ≡ encodeTable (record { header = counted (T .header) n; peers = T .peers })
 unfolding encodeTable
 counts-put T n = counted-put (T .header) (octetsOf (widthIn (T .header)) (T .peers)) n
 
 -- what `recount` shows
 pub recount-law : (t v : List ℕ) (m : ℕ) (n : Counts) → Bytes t → length t ≡ recordAt (widthOf t) m
-    → v ≡ put (put t 2 (oct 2 (n .used) ++ oct 2 (n .opened))) 12 (oct 2 (n .spare)) → n ≡ countsOf (decodeTable t) → v ≡ encodeTable (recounted (decodeTable t))
+    → v ≡ put (put t 2 (oct 2 (n .used) ++ oct 2 (n .opened))) 12 (oct 2 (n .good)) → n ≡ countsOf (decodeTable t) → v ≡ encodeTable (recounted (decodeTable t))
 unfolding recounted
 recount-law t v m n b h e en =
-    e ∙ ap (λ (x : List ℕ). put (put x 2 (oct 2 (n .used) ++ oct 2 (n .opened))) 12 (oct 2 (n .spare))) (sym (encode-decode t m b h)) ∙ counts-put (decodeTable t) n
+    e ∙ ap (λ (x : List ℕ). put (put x 2 (oct 2 (n .used) ++ oct 2 (n .opened))) 12 (oct 2 (n .good))) (sym (encode-decode t m b h)) ∙ counts-put (decodeTable t) n
     ∙ (λ i. encodeTable (record { header = counted (decodeTable t .header) (en i); peers = decodeTable t .peers }))
 
--- the third place of the counts holds zero octets where it says 0, and they stay
-third-zero : (t : List ℕ) → Bytes t → 32 ≤ length t → decodeTable t .header .counts .spare ≡ 0 → part t 12 2 ≡ oct 2 0
-unfolding decodeTable decodeHeader headerOf headerWidths cut
-third-zero t b h z = sym (ap (oct 2) (sym z) ∙ oct-part t 12 2 b (omega arith))
+-- where m octets at `at` are when a record of s octets is placed at r and the counts are put: aside of all of these
+pub data Elsewhere (r s at m : ℕ) : Type 0 where
+  before-counts : at + m ≤ 2 → Elsewhere r s at m
+  between-counts : 6 ≤ at → at + m ≤ 12 → Elsewhere r s at m
+  before-record : 14 ≤ at → at + m ≤ r → Elsewhere r s at m
+  past-record : r + s ≤ at → Elsewhere r s at m
 
--- A RECORD PLACED, with its counts, is two puts
-module _ (t : List ℕ) (n k : ℕ) (p : Peer) (b : Bytes t) (h : length t ≡ recordAt (widthOf t) n) (l : k < n) (f : ShapePeer width p) (z : decodeTable t .header .counts .spare ≡ 0) where
+-- A RECORD PLACED, with its counts, is three puts
+module _ (t : List ℕ) (n k : ℕ) (p : Peer) (b : Bytes t) (h : length t ≡ recordAt (widthOf t) n) (l : k < n) (f : ShapePeer width p) where
   abbrev four : List ℕ
   four = oct 2 (usedCount (withPeer (decodeTable t) k p)) ++ oct 2 (openCount (withPeer (decodeTable t) k p))
+
+  abbrev two : List ℕ
+  two = oct 2 (goodCount (withPeer (decodeTable t) k p))
 
   abbrev stored-in : List ℕ
   stored-in = put t (recordAt (widthOf t) k) (encodePeer (widthOf t) p)
@@ -192,33 +206,42 @@ module _ (t : List ℕ) (n k : ℕ) (p : Peer) (b : Bytes t) (h : length t ≡ r
   long : 32 ≤ length t
   long = omega (arith, h, after-header (widthOf t) n)
 
-  third : part (put stored-in 2 four) 12 2 ≡ oct 2 0
-  third = part-put-after stored-in 2 four 12 2 (omega (arith, length-four, length-stored, long)) (omega (arith, length-four))
-      ∙ part-put-before t (recordAt (widthOf t) k) (encodePeer (widthOf t) p) 12 2 (omega (arith, inside)) (omega (arith, after-header (widthOf t) k)) ∙ third-zero t b long z
+  length-two : length two ≡ 2
+  length-two = length-oct 2 (goodCount (withPeer (decodeTable t) k p))
 
-  pub placed-octets : encodeTable (placed (decodeTable t) k p) ≡
-      put (put t (recordAt (widthOf t) k) (encodePeer (widthOf t) p)) 2 (oct 2 (usedCount (withPeer (decodeTable t) k p)) ++ oct 2 (openCount (withPeer (decodeTable t) k p)))
+  length-counted : length (put stored-in 2 four) ≡ length t
+  length-counted = length-put stored-in 2 four (omega (arith, length-four, length-stored, long)) ∙ length-stored
+
+  pub placed-octets : encodeTable (placed (decodeTable t) k p) ≡ put (put stored-in 2 four) 12 two
   unfolding placed recounted
   placed-octets =
       sym (counts-put (withPeer (decodeTable t) k p) (countsOf (withPeer (decodeTable t) k p)))
-      ∙ ap (λ (x : List ℕ). put (put x 2 four) 12 (oct 2 0)) (with-peer-octets t n k p b h l f) ∙ ap (put (put stored-in 2 four) 12) (sym third)
-      ∙ put-part (put stored-in 2 four) 12 2 (omega (arith, length-put stored-in 2 four (omega (arith, length-four, length-stored, long)), length-stored, long))
+      ∙ ap (λ (x : List ℕ). put (put x 2 four) 12 two) (with-peer-octets t n k p b h l f)
 
-  -- EVERY OTHER OCTET stays: before the counts, between them and the slot, and past the slot
-  pub placed-outside : (at m : ℕ) → ((at + m ≤ 2) ⊎ ((6 ≤ at) × (at + m ≤ recordAt (widthOf t) k))) ⊎ (recordAt (widthOf t) k + recordSize (widthOf t) ≤ at)
-      → part (encodeTable (placed (decodeTable t) k p)) at m ≡ part t at m
-  placed-outside at m w = ap (λ (x : List ℕ). part x at m) placed-octets ∙ go w
-    where
-      go : ((at + m ≤ 2) ⊎ ((6 ≤ at) × (at + m ≤ recordAt (widthOf t) k))) ⊎ (recordAt (widthOf t) k + recordSize (widthOf t) ≤ at) → part (put stored-in 2 four) at m ≡ part t at m
-      go (inl (inl x)) =
-          part-put-before stored-in 2 four at m (omega (arith, length-stored, long)) x
-          ∙ part-put-before t (recordAt (widthOf t) k) (encodePeer (widthOf t) p) at m (omega (arith, inside)) (omega (arith, x, after-header (widthOf t) k))
-      go (inl (inr x)) =
-          part-put-after stored-in 2 four at m (omega (arith, length-stored, length-four, long)) (omega (arith, length-four, x .0))
-          ∙ part-put-before t (recordAt (widthOf t) k) (encodePeer (widthOf t) p) at m (omega (arith, inside)) (x .1)
-      go (inr x) =
-          part-put-after stored-in 2 four at m (omega (arith, length-stored, length-four, long)) (omega (arith, length-four, x, after-header (widthOf t) k))
-          ∙ part-put-after t (recordAt (widthOf t) k) (encodePeer (widthOf t) p) at m (omega (arith, length-record, inside)) (omega (arith, length-record, x))
+  -- EVERY OTHER OCTET stays
+  abbrev Aside : ℕ → ℕ → Type 0
+  Aside = Elsewhere (recordAt (widthOf t) k) (recordSize (widthOf t))
+
+  beside-good : (at m : ℕ) → Aside at m → part (put (put stored-in 2 four) 12 two) at m ≡ part (put stored-in 2 four) at m
+  beside-good at m (before-counts x) = part-put-before (put stored-in 2 four) 12 two at m (omega (arith, length-counted, long)) (omega (arith, x))
+  beside-good at m (between-counts x y) = part-put-before (put stored-in 2 four) 12 two at m (omega (arith, length-counted, long)) y
+  beside-good at m (before-record x y) = part-put-after (put stored-in 2 four) 12 two at m (omega (arith, length-counted, length-two, long)) (omega (arith, length-two, x))
+  beside-good at m (past-record x) = part-put-after (put stored-in 2 four) 12 two at m (omega (arith, length-counted, length-two, long)) (omega (arith, length-two, x, after-header (widthOf t) k))
+
+  beside-front : (at m : ℕ) → Aside at m → part (put stored-in 2 four) at m ≡ part stored-in at m
+  beside-front at m (before-counts x) = part-put-before stored-in 2 four at m (omega (arith, length-stored, long)) x
+  beside-front at m (between-counts x y) = part-put-after stored-in 2 four at m (omega (arith, length-stored, length-four, long)) (omega (arith, length-four, x))
+  beside-front at m (before-record x y) = part-put-after stored-in 2 four at m (omega (arith, length-stored, length-four, long)) (omega (arith, length-four, x))
+  beside-front at m (past-record x) = part-put-after stored-in 2 four at m (omega (arith, length-stored, length-four, long)) (omega (arith, length-four, x, after-header (widthOf t) k))
+
+  beside-record : (at m : ℕ) → Aside at m → part stored-in at m ≡ part t at m
+  beside-record at m (before-counts x) = part-put-before t (recordAt (widthOf t) k) (encodePeer (widthOf t) p) at m (omega (arith, inside)) (omega (arith, x, after-header (widthOf t) k))
+  beside-record at m (between-counts x y) = part-put-before t (recordAt (widthOf t) k) (encodePeer (widthOf t) p) at m (omega (arith, inside)) (omega (arith, y, after-header (widthOf t) k))
+  beside-record at m (before-record x y) = part-put-before t (recordAt (widthOf t) k) (encodePeer (widthOf t) p) at m (omega (arith, inside)) y
+  beside-record at m (past-record x) = part-put-after t (recordAt (widthOf t) k) (encodePeer (widthOf t) p) at m (omega (arith, length-record, inside)) (omega (arith, length-record, x))
+
+  pub placed-outside : (at m : ℕ) → Aside at m → part (encodeTable (placed (decodeTable t) k p)) at m ≡ part t at m
+  placed-outside at m w = ap (λ (x : List ℕ). part x at m) placed-octets ∙ beside-good at m w ∙ beside-front at m w ∙ beside-record at m w
 
 -- ---- and back: a table whose values fit, and are stored with its width without loss, is that of its octets
 
@@ -285,6 +308,13 @@ module _ (t : List ℕ) (w k a : ℕ) (R : Reached t w k) (e : a ≡ recordAt w 
 
   pub state-at-law : (r : ℕ) → r ≡ num (part t (a + 7) 1) → r ≡ slot (decodeTable t) k .run .state
   state-at-law r q = q ∙ ap (λ (x : ℕ). num (part t (x + 7) 1)) e ∙ sym (ap (λ (p : Peer). p .run .state) slot-in ∙ state-of w t k)
+
+  -- the two octets of a link that tell whether it is good
+  pub good-at-law : (l f s : ℕ) → l ≡ linkAt w → f ≡ num (part t (a + (l + 0)) 1) → s ≡ num (part t (a + (l + 1)) 1) → (eqb f 1 && eqb s 0) ≡ isGood (slot (decodeTable t) k)
+  good-at-law l f s el p q =
+      let fe : f ≡ slot (decodeTable t) k .link .finished = p ∙ (λ i. num (part t (e i + (el i + 0)) 1)) ∙ sym (ap (λ (p : Peer). p .link .finished) slot-in ∙ finished-of w t k) in
+      let se : s ≡ slot (decodeTable t) k .link .superseded = q ∙ (λ i. num (part t (e i + (el i + 1)) 1)) ∙ sym (ap (λ (p : Peer). p .link .superseded) slot-in ∙ superseded-of w t k) in
+      λ i. eqb (fe i) 1 && eqb (se i) 0
 
   pub address-at-law : (r : List ℕ) → r ≡ part t (a + 1) 6 → r ≡ slot (decodeTable t) k .address
   address-at-law r q = q ∙ ap (λ (x : ℕ). part t (x + 1) 6) e ∙ sym (ap (λ (p : Peer). p .address) slot-in ∙ address-of w t k)

@@ -30,7 +30,7 @@ unfoldable pub initialHeader : Form → Settings → List ℕ → ℕ → Header
 initialHeader f s own n =
     record {
       geometry = record { slots = n; size = f .size; first = 32 };
-      counts = record { used = 0; opened = 0; spare = 0 };
+      counts = record { used = 0; opened = 0; good = 0 };
       spare = 0;
       own = own;
       settings = s;

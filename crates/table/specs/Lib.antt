@@ -1,3 +1,4 @@
 -- What the contracts of `table` cite.
 pub mod Table
 pub mod Initial
+pub mod GoodLinks

@@ -63,6 +63,10 @@ inUse p = eqb (p .used) 1
 abbrev pub isOpen : Peer → Bool
 isOpen p = eqb (p .run .state) 1 || eqb (p .run .state) 2
 
+-- a good link: "finished links with a clear mark"
+abbrev pub isGood : Peer → Bool
+isGood p = eqb (p .link .finished) 1 && eqb (p .link .superseded) 0
+
 -- a record in use that has the address
 unfoldable pub belongs : List ℕ → Peer → Bool
 belongs a p = inUse p && sameAddress (p .address) a
@@ -74,9 +78,13 @@ usedCount T = countBelow (λ k. inUse (slot T k)) (slots T)
 unfoldable pub openCount : Table → ℕ
 openCount T = countBelow (λ k. isOpen (slot T k)) (slots T)
 
--- the counts of a table's records; in the third place nothing is counted
+-- "Header octets 12–13 keep it", the number of good links
+unfoldable pub goodCount : Table → ℕ
+goodCount T = countBelow (λ k. isGood (slot T k)) (slots T)
+
+-- the counts of a table's records
 abbrev pub countsOf : Table → Counts
-countsOf T = record { used = usedCount T; opened = openCount T; spare = 0 }
+countsOf T = record { used = usedCount T; opened = openCount T; good = goodCount T }
 
 -- the slot of an address
 unfoldable pub finds : Table → List ℕ → Found
@@ -108,12 +116,16 @@ alone T k = not (inUse (slot T k)) || allBelow (λ j. not (belongs (slot T k .ad
 unfoldable pub addressesOk : Table → Bool
 addressesOk T = allBelow (alone T) (slots T)
 
+-- the counts are those of the records
+unfoldable pub countsAre : Table → Counts → Bool
+countsAre T n =
+    eqb (n .used) (countsOf T .used)
+    && (eqb (n .opened) (countsOf T .opened)
+    && eqb (n .good) (countsOf T .good))
+
 -- the header's counts are true
-unfoldable pub countsOk : Table → Bool
-countsOk T =
-    eqb (T .header .counts .used) (countsOf T .used)
-    && (eqb (T .header .counts .opened) (countsOf T .opened)
-    && eqb (T .header .counts .spare) (countsOf T .spare))
+abbrev pub countsOk : Table → Bool
+countsOk T = countsAre T (T .header .counts)
 
 -- "The table's length is 32 + 864 × N", or 32 + 1,080 × N: by the form that the record size tells, never the other way round
 unfoldable pub sound : List ℕ → Bool
@@ -148,9 +160,9 @@ withPeer T k p = record { header = T .header; peers = set (T .peers) k p }
 unfoldable pub placed : Table → ℕ → Peer → Table
 placed T k p = recounted (withPeer T k p)
 
--- what a record adds to the two counts
+-- what a record adds to the three counts
 abbrev pub standingOf : Peer → Standing
-standingOf p = record { used = inUse p; opened = isOpen p }
+standingOf p = record { used = inUse p; opened = isOpen p; good = isGood p }
 
 -- what `recount` asks of the octets: a table of the right length whose counts are true but for one record's share, which is still what it was
 pub record Changed (t : List ℕ) (k : ℕ) (h : Header) (was : Standing) : Type 0 where
@@ -160,6 +172,7 @@ pub record Changed (t : List ℕ) (k : ℕ) (h : Header) (was : Standing) : Type
   pub header : h ≡ decodeTable t .header
   pub used : decodeTable t .header .counts .used + bit (inUse (slot (decodeTable t) k)) ≡ usedCount (decodeTable t) + bit (was .used)
   pub opened : decodeTable t .header .counts .opened + bit (isOpen (slot (decodeTable t) k)) ≡ openCount (decodeTable t) + bit (was .opened)
+  pub good : decodeTable t .header .counts .good + bit (isGood (slot (decodeTable t) k)) ≡ goodCount (decodeTable t) + bit (was .good)
 
 -- what a change of a slot's record asks of the octets: a slot of a table whose length and counts are right
 pub record Ready (t : List ℕ) (k : ℕ) : Type 0 where
@@ -179,10 +192,10 @@ key p = if inUse p then num (p .address) + 1 else 0
 unfoldable pub newKey : List ℕ → ℕ → Bool
 newKey keys k = eqb (getD keys k 0) 0 || allBelow (λ j. not (eqb (getD keys j 0) (getD keys k 0))) k
 
--- what the tests on the slots ask: the header, of the right form, and the number of slots
+-- what the tests on the slots ask: the header, of the right form, its counts or others, and the number of slots
 pub record Whole (t : List ℕ) (h : Header) (n : ℕ) : Type 0 where
   pub long : recordAt (widthOf t) n ≤ length t
-  pub header : h ≡ decodeTable t .header
+  pub header : h ≡ counted (decodeTable t .header) (h .counts)
   pub slots : n ≡ slots (decodeTable t)
   pub few : n ≤ 64
   pub some : 1 ≤ h .settings .count

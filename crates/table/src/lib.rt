@@ -7,18 +7,21 @@ ghost use lib.Dec.{eqb};
 ghost use lib.ListN.{length, getD, replicate};
 ghost use Rattle.octets.specs.Octets.{num};
 ghost use Rattle.octets.specs.Scan.{allBelow, countBelow, firstBelow, lastBelow, bit};
-ghost use Rattle.record.specs.Layout.{encodeHeader};
-ghost use Rattle.soundness.specs.Soundness.{peerOk};
-ghost use Rattle.table.specs.Table.{decodeTable, encodeTable, slots, slot, inUse, isOpen, finds, freeSlot, usedCount, countsOf, slotsOk, alone, addressesOk, countsOk, sound, entry, recounted, key, newKey, standingOf, Changed, Whole, Headed, Reaches, Reached, Sized, Looked, Checks, Enters};
+ghost use Rattle.record.specs.Layout.{encodeHeader, counted, recordAt, widthIn};
+ghost use Rattle.soundness.specs.Soundness.{headerOk, peerOk};
+ghost use Rattle.table.specs.Table.{decodeTable, encodeTable, slots, slot, inUse, isOpen, isGood, finds, freeSlot, usedCount, countsOf, slotsOk, alone, addressesOk, countsAre, sound, entry, recounted, key, newKey, standingOf, Changed, Whole, Headed, Reaches, Reached, Sized, Looked, Checks, Enters};
+ghost use Rattle.table.specs.GoodLinks.{headerPossible, withGood, filled, fills};
 ghost use Rattle.table.specs.Initial.{made, slotsFor, lengthOk, initialHeader, initialOk, initial};
 use octets::Found;
 use record::ADDRESS;
 use record::Counts;
+use record::FINISHED;
 use record::Geometry;
 use record::HEADER;
 use record::Header;
 use record::RUN;
 use record::STATE;
+use record::SUPERSEDED;
 use record::Settings;
 use record::USED;
 
@@ -95,6 +98,18 @@ pub fn is_open(t: &[u8], w: usize, k: usize) -> bool
     (state == 1) | (state == 2)
 }
 
+// Finished, with a clear mark.
+pub fn is_good(t: &[u8], w: usize, k: usize) -> bool
+    requires { ⌜ Reached (now t) w k ⌝ }
+    ensures { λ r. ⌜ r ≡ isGood (slot (decodeTable (now (t .entry))) k) ⌝ }
+{
+    let a = record::record_at(w, k);
+    let l = record::link_at(w);
+    let finished = octets::get8(t, a + (l + FINISHED));
+    let superseded = octets::get8(t, a + (l + SUPERSEDED));
+    (finished == 1) & (superseded == 0)
+}
+
 fn has(t: &[u8], w: usize, k: usize, x: u64) -> bool
     requires { ⌜ Reached (now t) w k ⌝ }
     ensures { λ r. ⌜ r ≡ (inUse (slot (decodeTable (now (t .entry))) k) && eqb (num (slot (decodeTable (now (t .entry))) k .address)) x) ⌝ }
@@ -140,20 +155,22 @@ fn free_below(t: &[u8], w: usize, n: usize) -> Found
 // The counts over the slots below n, in one pass.
 fn counts_below(t: &[u8], w: usize, n: usize) -> Counts
     requires { ⌜ Reaches (now t) w n × (n ≤ 64) ⌝ }
-    ensures { λ r. ⌜ (r .used ≡ countBelow (λ k. inUse (slot (decodeTable (now (t .entry))) k)) n) × ((r .opened ≡ countBelow (λ k. isOpen (slot (decodeTable (now (t .entry))) k)) n) × (r .spare ≡ 0)) ⌝ }
+    ensures { λ r. ⌜ (r .used ≡ countBelow (λ k. inUse (slot (decodeTable (now (t .entry))) k)) n) × ((r .opened ≡ countBelow (λ k. isOpen (slot (decodeTable (now (t .entry))) k)) n) × (r .good ≡ countBelow (λ k. isGood (slot (decodeTable (now (t .entry))) k)) n)) ⌝ }
 {
     let mut used: usize = 0;
     let mut opened: usize = 0;
+    let mut good: usize = 0;
     let mut i = 0;
     while i < n {
         used += octets::one_if(is_used(t, w, i));
         opened += octets::one_if(is_open(t, w, i));
+        good += octets::one_if(is_good(t, w, i));
         i += 1;
     }
     Counts {
         used: used as u16,
         opened: opened as u16,
-        spare: 0,
+        good: good as u16,
     }
 }
 
@@ -267,19 +284,19 @@ fn addresses_ok(t: &[u8], w: usize, n: usize, used: u16) -> bool
     differ_in(t, w, n, &mut keys[..])
 }
 
-fn counts_ok(t: &[u8], w: usize, h: Header, n: usize) -> bool
-    requires { ⌜ Reaches (now t) w n × ((n ≤ 64) × ((h ≡ decodeTable (now t) .header) × (n ≡ slots (decodeTable (now t))))) ⌝ }
-    ensures { λ r. ⌜ r ≡ countsOk (decodeTable (now (t .entry))) ⌝ }
+// Whether the counts are those of the records.
+fn counts_ok(t: &[u8], w: usize, c: Counts, n: usize) -> bool
+    requires { ⌜ Reaches (now t) w n × ((n ≤ 64) × (n ≡ slots (decodeTable (now t)))) ⌝ }
+    ensures { λ r. ⌜ r ≡ countsAre (decodeTable (now (t .entry))) c ⌝ }
 {
     let counts = counts_below(t, w, n);
-    (h.counts.used == counts.used)
-        & ((h.counts.opened == counts.opened) & (h.counts.spare == counts.spare))
+    (c.used == counts.used) & ((c.opened == counts.opened) & (c.good == counts.good))
 }
 
-// The slots, their addresses and the counts, under a header of the right form.
+// The slots, their addresses and the header's counts, under a header of the right form.
 fn body_ok(t: &[u8], h: Header, n: usize) -> bool
     requires { ⌜ Whole (now t) h n ⌝ }
-    ensures { λ r. ⌜ r ≡ (slotsOk (decodeTable (now (t .entry))) && (addressesOk (decodeTable (now (t .entry))) && countsOk (decodeTable (now (t .entry))))) ⌝ }
+    ensures { λ r. ⌜ r ≡ (slotsOk (decodeTable (now (t .entry))) && (addressesOk (decodeTable (now (t .entry))) && countsAre (decodeTable (now (t .entry))) (h .counts))) ⌝ }
 {
     let own = h.own;
     let gs = h.settings.groups;
@@ -288,7 +305,7 @@ fn body_ok(t: &[u8], h: Header, n: usize) -> bool
     let w = record::width_of(h);
     let slots = slots_ok(t, w, n, own, &gs[..m], high);
     let addresses = addresses_ok(t, w, n, h.counts.used);
-    let counts = counts_ok(t, w, h, n);
+    let counts = counts_ok(t, w, h.counts, n);
     slots & (addresses & counts)
 }
 
@@ -299,19 +316,27 @@ pub fn header_of(t: &[u8]) -> Header
     record::load_header(t)
 }
 
-// The whole form of a table under its header.
-fn is_whole(t: &[u8], h: Header) -> bool
-    requires { ⌜ Headed (now t) h ⌝ }
-    ensures { λ r. ⌜ r ≡ sound (now (t .entry)) ⌝ }
+// Whether the header has its form, and the table the length that it tells.
+fn is_framed(t: &[u8], h: Header) -> bool
+    ensures { λ r. ⌜ r ≡ (headerOk h && eqb (length (now (t .entry))) (recordAt (widthIn h) (h .geometry .slots))) ⌝ }
 {
     if !soundness::header_ok(h) {
         return false;
     }
     let n = h.geometry.slots as usize;
     let w = record::width_of(h);
-    if t.len() != record::record_at(w, n) {
+    t.len() == record::record_at(w, n)
+}
+
+// The whole form of a table under its header.
+fn is_whole(t: &[u8], h: Header) -> bool
+    requires { ⌜ Headed (now t) h ⌝ }
+    ensures { λ r. ⌜ r ≡ sound (now (t .entry)) ⌝ }
+{
+    if !is_framed(t, h) {
         return false;
     }
+    let n = h.geometry.slots as usize;
     body_ok(t, h, n)
 }
 
@@ -404,6 +429,7 @@ pub fn enter(t: &[u8], a: [u8; 6]) -> Entrance
 pub struct Standing {
     pub used: bool,
     pub opened: bool,
+    pub good: bool,
 }
 
 pub fn standing_of(t: &[u8], w: usize, k: usize) -> Standing
@@ -412,9 +438,11 @@ pub fn standing_of(t: &[u8], w: usize, k: usize) -> Standing
 {
     let used = is_used(t, w, k);
     let opened = is_open(t, w, k);
+    let good = is_good(t, w, k);
     Standing {
         used: used,
         opened: opened,
+        good: good,
     }
 }
 
@@ -436,10 +464,11 @@ fn counts_after(t: &[u8], k: usize, h: Header, was: Standing) -> Counts
     let w = record::width_of(h);
     let used = moved(h.counts.used, was.used, is_used(t, w, k));
     let opened = moved(h.counts.opened, was.opened, is_open(t, w, k));
+    let good = moved(h.counts.good, was.good, is_good(t, w, k));
     Counts {
         used: used,
         opened: opened,
-        spare: 0,
+        good: good,
     }
 }
 
@@ -450,6 +479,61 @@ pub fn recount(t: &mut [u8], k: usize, h: Header, was: Standing)
 {
     let n = counts_after(t, k, h, was);
     record::set_counts(t, n);
+}
+
+// ---- how many good links
+
+// Whether some sound table has this header: its fields, and what the counts of so many slots can be.
+pub fn is_possible(h: Header) -> bool
+    ensures { λ r. ⌜ r ≡ headerPossible h ⌝ }
+{
+    let n = h.geometry.slots;
+    let used = h.counts.used;
+    let header = soundness::header_ok(h);
+    header & ((h.counts.opened <= used) & ((used <= n) & (h.counts.good <= used)))
+}
+
+// The header with another count of good links.
+fn with_good(h: Header, n: u16) -> Header
+    ensures { λ r. ⌜ r ≡ withGood h n ⌝ }
+{
+    let own = h.own;
+    let geometry = h.geometry;
+    let settings = h.settings;
+    Header {
+        geometry: geometry,
+        counts: Counts {
+            used: h.counts.used,
+            opened: h.counts.opened,
+            good: n,
+        },
+        spare: h.spare,
+        own: own,
+        settings: settings,
+    }
+}
+
+// The true count of good links goes into the header of a table otherwise sound, or, false, cause 2 holds and every octet stays. The count that is there is
+// not looked at.
+pub fn fill_good(t: &mut [u8]) -> bool
+    ensures { λ r. ⌜ (r ≡ sound (filled (now (t .entry)))) × (now (t .exit) ≡ fills (now (t .entry))) ⌝ }
+{
+    if t.len() < HEADER {
+        return false;
+    }
+    let h = header_of(t);
+    if !is_framed(t, h) {
+        return false;
+    }
+    let n = h.geometry.slots as usize;
+    let w = record::width_of(h);
+    let counts = counts_below(t, w, n);
+    let full = with_good(h, counts.good);
+    if !body_ok(t, full, n) {
+        return false;
+    }
+    record::set_good(t, counts.good);
+    true
 }
 
 // ---- set up
@@ -497,7 +581,7 @@ fn initial_header(s: Settings, own: [u8; 6], n: u16) -> Header
         counts: Counts {
             used: 0,
             opened: 0,
-            spare: 0,
+            good: 0,
         },
         spare: 0,
         own: own,
@@ -506,7 +590,7 @@ fn initial_header(s: Settings, own: [u8; 6], n: u16) -> Header
 }
 
 // A header, and zeros for all the slots.
-fn fill(t: &mut [u8], h: Header)
+fn store_fresh(t: &mut [u8], h: Header)
     requires { ⌜ 32 ≤ length (now t) ⌝ }
     ensures { λ _. ⌜ now (t .exit) ≡ encodeHeader h ++ replicate (length (now (t .entry)) - 32) 0 ⌝ }
 {
@@ -523,6 +607,6 @@ pub fn write_initial(t: &mut [u8], own: [u8; 6], s: Settings) -> bool
         return false;
     }
     let h = initial_header(s, own, slots_for(n) as u16);
-    fill(t, h);
+    store_fresh(t, h);
     true
 }

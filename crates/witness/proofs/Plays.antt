@@ -14,7 +14,7 @@ use Rattle.record.specs.declared.Run.{Run}
 use Rattle.record.specs.declared.Link.{Link}
 use Rattle.record.specs.declared.Peer.{Peer}
 use Rattle.record.specs.Layout.{noRun, noLink, noPeer}
-use Rattle.table.specs.Table.{widthOf, encodeTable}
+use Rattle.table.specs.Table.{widthOf, encodeTable, isGood}
 use Rattle.rules.specs.declared.Frames.{Frames}
 use Rattle.rules.specs.declared.Frames.the-variants as frames
 use Rattle.rules.specs.declared.Event.{Event}
@@ -23,6 +23,7 @@ use Rattle.rules.specs.Book.{commitFrame, groupRefusalFrame, confirmFrame}
 use Rattle.answers.specs.declared.Outcome.the-variants as outcome
 use Rattle.answers.specs.Answers.{Left}
 use Rattle.octets.specs.Octets as octets
+use Rattle.octets.specs.Scan.{bit}
 use Rattle.octets.specs.Scan as scan
 use Rattle.groups.specs.Groups as groups
 use Rattle.frame.specs.Frame as frame
@@ -90,7 +91,7 @@ table P used opened p =
     encodeTable (record {
       header = record {
         geometry = record { slots = 1; size = P .size; first = 32 };
-        counts = record { used = used; opened = opened; spare = 0 };
+        counts = record { used = used; opened = opened; good = bit (isGood p) };
         spare = 0;
         own = own (P .side);
         settings =
@@ -329,7 +330,7 @@ unfolding octets.part octets.put octets.num octets.oct octets.allZero octets.sam
     soundness.settingsOk soundness.geometryOk soundness.headerOk soundness.commitOk soundness.tokenOk soundness.rejectedOk soundness.committedOk
     soundness.confirmedOk soundness.runOk soundness.finishedOk soundness.linkOk soundness.freeOk soundness.inUseOk soundness.peerOk
     soundness.allListable tables.peersOf tables.octetsOf tables.decodeTable tables.encodeTable tables.slot tables.belongs tables.usedCount
-    tables.openCount tables.finds tables.freeSlot tables.lookBy tables.look tables.slotsOk tables.alone tables.addressesOk tables.countsOk
+    tables.openCount tables.finds tables.freeSlot tables.lookBy tables.look tables.slotsOk tables.alone tables.addressesOk tables.countsAre tables.goodCount
     tables.sound tables.foundEntry tables.entry tables.recounted tables.withPeer tables.key tables.newKey initial.slotsFor initial.lengthOk
     initial.initialHeader initial.initialTable initial.initialOk parts.switched parts.withRun book.deadline book.holds book.linkedWith book.startAct
     book.commitIdle book.commitCommitted book.confirmConfirmed book.commitAct book.confirmAct book.frameAct book.delay book.setT0 book.supersede

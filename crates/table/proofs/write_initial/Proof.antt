@@ -19,14 +19,14 @@ cast-initial-header c = omega (arith, initial-by (c .before .before .before .bef
 initial-header-requires : tie.Need-initial-header-requires
 initial-header-requires c κs = search needs
 
-fill-requires : tie.Need-fill-requires
-fill-requires c κs = long-by (c .before .before .before .before .before .before .args .s) (c .before .before .before .before .before .before .args .own) (c .before .before .before .before .before .before .args .t .now) _ (c .before .before .before .before .initial-ok .ensures) (c .before .before .before .if1 .left)
+store-fresh-requires : tie.Need-store-fresh-requires
+store-fresh-requires c κs = long-by (c .before .before .before .before .before .before .args .s) (c .before .before .before .before .before .before .args .own) (c .before .before .before .before .before .before .args .t .now) _ (c .before .before .before .before .initial-ok .ensures) (c .before .before .before .if1 .left)
 
 same-length : tie.Need-same-length
 same-length c = search needs
 
 returns-2 : tie.Need-returns-2
-returns-2 c = written-law (c .before .before .before .before .before .before .before .before .before .args .s) (c .before .before .before .before .before .before .before .before .before .args .own) (c .before .before .before .before .before .before .before .before .before .args .t .now) _ _ _ _ (c .before .before .before .before .before .before .before .initial-ok .ensures) (c .before .before .before .before .before .before .if1 .left) (c .before .before .before .before .before .slots-for .ensures) (c .before .before .before .before .initial-header .ensures) (c .before .before .fill .ensures)
+returns-2 c = written-law (c .before .before .before .before .before .before .before .before .before .args .s) (c .before .before .before .before .before .before .before .before .before .args .own) (c .before .before .before .before .before .before .before .before .before .args .t .now) _ _ _ _ (c .before .before .before .before .before .before .before .initial-ok .ensures) (c .before .before .before .before .before .before .if1 .left) (c .before .before .before .before .before .slots-for .ensures) (c .before .before .before .before .initial-header .ensures) (c .before .before .store-fresh .ensures)
 
 pub write-initial-spec : {M : Type 1} → statement M
 write-initial-spec =
@@ -37,6 +37,6 @@ write-initial-spec =
     slots-for-requires
     cast-initial-header
     initial-header-requires
-    fill-requires
+    store-fresh-requires
     same-length
     returns-2)

@@ -3,8 +3,8 @@ use mathlib.Core.Path.{_≡_}
 use lib.ListN.{length}
 use Rattle.record.proofs.Laws.{length-six}
 use borrow.Author.Needs.{needs}
-use Rattle.table.proofs.fill.Statement.{statement}
-use Rattle.table.proofs.fill.Tie as tie
+use Rattle.table.proofs.store_fresh.Statement.{statement}
+use Rattle.table.proofs.store_fresh.Tie as tie
 
 sub-clear : tie.Need-sub-clear
 sub-clear c = search needs
@@ -41,8 +41,8 @@ returns c =
     let k = c .before .before .before .before .before .before .before .before .before in
     fill-law (k .args .t .now) _ _ (k .args .h) (k .pre) (length-six (k .args .h) (fit k)) (c .before .before .before .before .before .before .clear .ensures) (c .before .before .store-header .ensures)
 
-pub fill-spec : {M : Type 1} → statement M
-fill-spec =
+pub store-fresh-spec : {M : Type 1} → statement M
+store-fresh-spec =
     tie.close
     (tie.spec
     sub-clear
