@@ -26,7 +26,7 @@ use Rattle.record.specs.declared.Counts.{Counts}
 use Rattle.record.specs.declared.Settings.{Settings}
 use Rattle.record.specs.declared.Header.{Header}
 use Rattle.record.proofs.Laws.{ShapeRun, ShapeLink, ShapePeer, zero-run, zero-link, zero-peer, zeros-run, zeros-link, zeros-peer, FormOf, is-narrow, is-wide, is-none, form-of, Served, form-served, form-groups, form-slots}
-use Rattle.soundness.specs.Soundness.{ownOk, usable, allListable, eachOnce, groupsOk, periodOk, limitOk, settingsOk, geometryOk, headerOk, highSync, commitOk, tokenOk, rejectedOk, committedOk, confirmedOk, runOk, finishedOk, linkOk, freeOk, inUseOk, peerOk}
+use Rattle.soundness.specs.Soundness.{ownOk, usable, allListable, eachOnce, groupsOk, periodOk, limitOk, settingsOk, geometryOk, headerOk, highSync, commitOk, tokenOk, rejectedOk, committedOk, confirmedOk, runOk, finishedOk, linkOk, freeOk, inUseOk, peerOk, boundsOk}
 
 -- ---- unused parts
 
@@ -349,15 +349,15 @@ pub record HeaderForm (h : Header) : Type 0 where
   pub settings : settingsOk (formIn h) (h .settings) ≡ true
 
 pub header-form : (h : Header) → headerOk h ≡ true → HeaderForm h
-unfolding headerOk
+unfolding headerOk boundsOk
 header-form h ok =
-    let k₁ = and-right (geometryOk (h .geometry)) _ ok in
-    let k₂ = and-right (eqb (h .spare) 0) _ k₁ in
-    record { geometry = geometry-form _ (and-left _ _ ok); spare = eqb-true _ _ (and-left _ _ k₁); own = and-left _ _ k₂; settings = and-right (ownOk (h .own)) _ k₂ }
+    let k : boundsOk h ≡ true = and-left _ _ ok in
+    let k₁ = and-right (geometryOk (h .geometry)) _ k in
+    record { geometry = geometry-form _ (and-left _ _ k); spare = eqb-true _ _ (and-left _ _ k₁); own = and-right (eqb (h .spare) 0) _ k₁; settings = and-right (boundsOk h) _ ok }
 
 pub form-header : (h : Header) → HeaderForm h → headerOk h ≡ true
-unfolding headerOk
-form-header h f = and-both _ _ (form-geometry _ (f .geometry)) (and-both _ _ (eq-eqb _ _ (f .spare)) (and-both _ _ (f .own) (f .settings)))
+unfolding headerOk boundsOk
+form-header h f = and-both _ _ (and-both _ _ (form-geometry _ (f .geometry)) (and-both _ _ (eq-eqb _ _ (f .spare)) (f .own))) (f .settings)
 
 -- its form is one that is served, and it lists groups that this form can store
 pub header-served : (h : Header) → headerOk h ≡ true → Served (formIn h)
@@ -430,5 +430,5 @@ header-forms h ok = go (form-of (h .geometry .size))
 
 -- the counts are not looked at
 pub header-counted : (h : Header) (n : Counts) → headerOk (counted h n) ≡ headerOk h
-unfolding headerOk
+unfolding headerOk boundsOk
 header-counted h n = refl

@@ -6,7 +6,7 @@ ghost use lib.ListN.{length, drop};
 ghost use Rattle.octets.specs.Octets.{part, allZero};
 ghost use Rattle.groups.specs.Groups.{width, listed};
 ghost use Rattle.record.specs.Layout.{runSize, linkSize, recordSize, formOf, decodeRun, decodeLink, decodePeer};
-ghost use Rattle.soundness.specs.Soundness.{ownOk, usable, groupsOk, periodOk, limitOk, settingsOk, geometryOk, headerOk, rejectedOk, tokenOk, committedOk, confirmedOk, runOk, finishedOk, linkOk, inUseOk, peerOk};
+ghost use Rattle.soundness.specs.Soundness.{ownOk, usable, groupsOk, periodOk, limitOk, settingsOk, geometryOk, headerOk, rejectedOk, tokenOk, committedOk, confirmedOk, runOk, finishedOk, linkOk, inUseOk, peerOk, boundsOk};
 use octets::Found;
 use record::ADDRESS;
 use record::FINISHED;
@@ -117,18 +117,27 @@ fn geometry_ok(form: Form, g: Geometry) -> bool
     (1 <= g.slots) & ((g.slots <= form.slots) & (g.first == HEADER as u16))
 }
 
+// The header, its counts and settings apart.
+pub fn bounds_ok(form: Form, h: Header) -> bool
+    requires { ⌜ form ≡ formOf (h .geometry .size) ⌝ }
+    ensures { λ r. ⌜ r ≡ boundsOk h ⌝ }
+{
+    let g = h.geometry;
+    let own = h.own;
+    let geometry = geometry_ok(form, g);
+    let owner = own_ok(own);
+    geometry & ((h.spare == 0) & owner)
+}
+
 // The header, its counts apart.
 pub fn header_ok(h: Header) -> bool
     ensures { λ r. ⌜ r ≡ headerOk h ⌝ }
 {
-    let g = h.geometry;
-    let own = h.own;
     let s = h.settings;
-    let form = record::form_of(g.size);
-    let geometry = geometry_ok(form, g);
-    let owner = own_ok(own);
+    let form = record::form_of(h.geometry.size);
+    let bounds = bounds_ok(form, h);
     let settings = settings_ok(form, s);
-    geometry & ((h.spare == 0) & (owner & settings))
+    bounds & settings
 }
 
 // Of the m octets from at, those past the first n are zero.

@@ -23,7 +23,7 @@ use Rattle.record.proofs.Laws.{FitPeer, StorablePeer, shape-peer}
 use Rattle.soundness.specs.Soundness.{headerOk, highSync, peerOk}
 use Rattle.soundness.proofs.Laws.{header-counted}
 use Rattle.soundness.proofs.Storable.{header-room, peer-storable}
-use Rattle.table.specs.Table.{Table, widthOf, decodeTable, encodeTable, slot, slots, inUse, belongs, alone, slotsOk, addressesOk, countsAre, countsOk, sound, usedCount, openCount, goodCount, countsOf, withPeer, placed, recounted, finds, look, lookBy}
+use Rattle.table.specs.Table.{Table, widthOf, decodeTable, encodeTable, slot, slots, inUse, belongs, alone, slotsOk, addressesOk, countsOk, sound, usedCount, openCount, goodCount, countsOf, withPeer, placed, recounted, finds, look, lookBy}
 use Rattle.table.proofs.Octets.{FitTable, after-header, decode-encode, encode-decode, length-table}
 use Rattle.table.proofs.Laws.{sound-header, sound-whole, sound-addresses, sound-counts, sound-peer, sound-of, slot-same, slot-other, peers-held, found-below, counts-true}
 use Rattle.table.proofs.Changed.{recounted-same}
@@ -81,7 +81,7 @@ sound-form t s = record {
   header = sound-header t s;
   each = sound-peer t s;
   apart = slots-apart (decodeTable t) (sound-addresses t s);
-  counts = counts-true (decodeTable t) (decodeTable t .header .counts) (sound-counts t s);
+  counts = counts-true (decodeTable t) (sound-counts t s);
 }
 
 alone-of : (T : Table) → Form T → (k : ℕ) → k < slots T → alone T k ≡ true
@@ -101,7 +101,7 @@ unfolding addressesOk
 form-addresses T F = all-of (alone T) (slots T) (alone-of T F)
 
 form-counts : (T : Table) → Form T → countsOk T ≡ true
-unfolding countsAre
+unfolding countsOk
 form-counts T F =
     and-both _ _ (eq-eqb _ _ (ap (λ (n : Counts). n .used) (F .counts)))
     (and-both _ _ (eq-eqb _ _ (ap (λ (n : Counts). n .opened) (F .counts))) (eq-eqb _ _ (ap (λ (n : Counts). n .good) (F .counts))))

@@ -19,13 +19,12 @@ use Rattle.octets.proofs.Scan.{cases, clash, and-left, and-right, and-both, all
 use Rattle.record.specs.declared.Peer.{Peer}
 use Rattle.record.specs.declared.Counts.{Counts}
 use Rattle.record.specs.declared.Header.{Header}
-use Rattle.record.specs.declared.Settings.{Settings}
 use Rattle.groups.specs.Groups.{width}
-use Rattle.record.specs.Layout.{widthIn, recordSize, recordAt, groupsOf, counted, limitOf}
+use Rattle.record.specs.Layout.{widthIn, recordSize, recordAt, groupsOf}
 use Rattle.record.proofs.Laws.{record-below}
 use Rattle.soundness.specs.Soundness.{usable, headerOk, highSync, peerOk}
 use Rattle.soundness.proofs.Laws.{header-groups, header-high, header-count, header-slots}
-use Rattle.table.specs.Table.{Table, widthOf, decodeTable, slot, slots, inUse, isOpen, isGood, belongs, alone, slotsOk, addressesOk, countsAre, countsOk, sound, usedCount, openCount, goodCount, countsOf, finds, freeSlot, entry, foundEntry, withPeer, standingOf, Changed, Ready, Whole, Reaches, Reached, Sized, Looked, Enters}
+use Rattle.table.specs.Table.{Table, widthOf, decodeTable, slot, slots, inUse, isOpen, isGood, belongs, alone, slotsOk, addressesOk, countsOk, sound, usedCount, openCount, goodCount, countsOf, finds, freeSlot, entry, foundEntry, withPeer, standingOf, Changed, Ready, Whole, Reaches, Reached, Sized, Looked, Enters}
 use Rattle.table.specs.declared.Entrance.{Entrance}
 use Rattle.table.specs.declared.Standing.{Standing}
 use Rattle.table.specs.declared.Entry.{Entry}
@@ -33,13 +32,13 @@ use Rattle.table.specs.declared.Entry.the-variants as entry-is
 use Rattle.table.proofs.Octets.{many, length-peers}
 
 -- the counts are those of the records, place by place
-pub counts-true : (T : Table) (n : Counts) → countsAre T n ≡ true → n ≡ countsOf T
-unfolding countsAre
-counts-true T n ok =
-    let k₁ = and-right (eqb (n .used) (usedCount T)) _ ok in
-    let u : n .used ≡ usedCount T = eqb-true _ _ (and-left _ _ ok) in
-    let o : n .opened ≡ openCount T = eqb-true _ _ (and-left _ _ k₁) in
-    let g : n .good ≡ goodCount T = eqb-true _ _ (and-right (eqb (n .opened) (openCount T)) _ k₁) in
+pub counts-true : (T : Table) → countsOk T ≡ true → T .header .counts ≡ countsOf T
+unfolding countsOk
+counts-true T ok =
+    let k₁ = and-right (eqb (T .header .counts .used) (usedCount T)) _ ok in
+    let u : T .header .counts .used ≡ usedCount T = eqb-true _ _ (and-left _ _ ok) in
+    let o : T .header .counts .opened ≡ openCount T = eqb-true _ _ (and-left _ _ k₁) in
+    let g : T .header .counts .good ≡ goodCount T = eqb-true _ _ (and-right (eqb (T .header .counts .opened) (openCount T)) _ k₁) in
     λ i. record { used = u i; opened = o i; good = g i }
 
 -- what soundness says
@@ -90,7 +89,7 @@ module _ (t : List ℕ) (s : sound t ≡ true) where
     whole = sound-whole;
     below = h;
     small = sound-small;
-    counts = counts-true (decodeTable t) (decodeTable t .header .counts) sound-counts;
+    counts = counts-true (decodeTable t) sound-counts;
   }
 
 -- soundness from its parts
@@ -107,84 +106,54 @@ no-right : (a b : Bool) → false ≡ b → false ≡ (a && b)
 no-right true b e = e
 no-right false b e = refl
 
-no-both : (a b c : Bool) → (a && b) ≡ false → false ≡ (a && (b && c))
-no-both true b c e = no-left b c e
-no-both false b c e = refl
-
 pub not-long : (t : List ℕ) → length t < 32 → false ≡ sound t
 unfolding sound
 not-long t h = no-left _ _ (lt-leb _ _ h)
 
--- the form of the table under its header, with these counts in place of the header's
-unfoldable pub soundWith : List ℕ → Counts → Bool
-soundWith t n =
-    headerOk (decodeTable t .header)
-    && (eqb (length t) (recordAt (widthOf t) (slots (decodeTable t)))
-    && (slotsOk (decodeTable t)
-    && (addressesOk (decodeTable t)
-    && countsAre (decodeTable t) n)))
+not-header : (t : List ℕ) → headerOk (decodeTable t .header) ≡ false → false ≡ sound t
+unfolding sound
+not-header t e = no-right (leb 32 (length t)) _ (no-left _ _ e)
 
-pub sound-with : (t : List ℕ) → 32 ≤ length t → soundWith t (decodeTable t .header .counts) ≡ sound t
-unfolding sound soundWith
-sound-with t l = rw (le-leb _ _ l)
+not-whole : (t : List ℕ) → (length t ≡ recordAt (widthOf t) (slots (decodeTable t)) → ⊥) → false ≡ sound t
+unfolding sound
+not-whole t d = no-right (leb 32 (length t)) _ (no-right (headerOk (decodeTable t .header)) _ (no-left _ _ (ne-eqb _ _ d)))
 
-pub sound-by-header : (t : List ℕ) (h : Header) → h ≡ decodeTable t .header → 32 ≤ length t → soundWith t (h .counts) ≡ sound t
-sound-by-header t h e l = ap (λ (g : Header). soundWith t (g .counts)) e ∙ sound-with t l
+body-sound : (t : List ℕ) → 32 ≤ length t → headerOk (decodeTable t .header) ≡ true → length t ≡ recordAt (widthOf t) (slots (decodeTable t))
+    → (slotsOk (decodeTable t) && (addressesOk (decodeTable t) && countsOk (decodeTable t))) ≡ sound t
+unfolding sound
+body-sound t a b d = rw (le-leb _ _ a, b, eq-eqb _ _ d)
 
--- what `is_framed` shows
-pub unframed : (h : Header) (ok e : Bool) → ok ≡ headerOk h → not ok ≡ true → false ≡ (headerOk h && e)
-unframed h ok e p q = no-left _ _ (sym p ∙ not-true ok q)
+-- the same, from what the callees show
+module _ (t : List ℕ) (h : Header) (e : h ≡ decodeTable t .header) where
+  pub not-header-by : (ok : Bool) → ok ≡ headerOk h → not ok ≡ true → false ≡ sound t
+  not-header-by ok p q = not-header t (ap headerOk (sym e) ∙ sym p ∙ not-true ok q)
 
-pub framed-by : (t : List ℕ) (h : Header) (ok : Bool) (w n : ℕ) → ok ≡ headerOk h → not ok ≡ false → w ≡ widthIn h → n ≡ recordAt w (h .geometry .slots)
-    → eqb (length t) n ≡ (headerOk h && eqb (length t) (recordAt (widthIn h) (h .geometry .slots)))
-framed-by t h ok w n p q ew en =
-    let y : headerOk h ≡ true = sym p ∙ not-false ok q in
-    ap (eqb (length t)) (en ∙ ap (λ (x : ℕ). recordAt x (h .geometry .slots)) ew) ∙ sym (rw y)
-
--- from what `is_framed` shows of the table's header
-module _ (t : List ℕ) (h : Header) (e : h ≡ decodeTable t .header) (r : Bool) (er : r ≡ (headerOk h && eqb (length t) (recordAt (widthIn h) (h .geometry .slots)))) where
-  unfoldable framed-are : r ≡ (headerOk (decodeTable t .header) && eqb (length t) (recordAt (widthOf t) (slots (decodeTable t))))
+  -- what the header's width and slots come to, worked out from the header handed on
+  by-header : (w n : ℕ) → w ≡ widthIn h → n ≡ recordAt w (h .geometry .slots) → n ≡ recordAt (widthOf t) (slots (decodeTable t))
   unfolding decodeTable
-  framed-are = er ∙ ap (λ (g : Header). headerOk g && eqb (length t) (recordAt (widthIn g) (g .geometry .slots))) e
+  by-header w n ew q = q ∙ ap (λ (x : ℕ). recordAt x (h .geometry .slots)) ew ∙ ap (λ (g : Header). recordAt (widthIn g) (g .geometry .slots)) e
 
-  pub not-framed : (n : Counts) → not r ≡ true → false ≡ soundWith t n
-  unfolding soundWith
-  not-framed n q = no-both (headerOk (decodeTable t .header)) _ _ (sym framed-are ∙ not-true r q)
+  pub not-whole-by : (w n : ℕ) → w ≡ widthIn h → n ≡ recordAt w (h .geometry .slots) → (length t ≡ n → ⊥) → false ≡ sound t
+  not-whole-by w n ew q d = not-whole t (λ x. d (x ∙ sym (by-header w n ew q)))
 
-  module _ (q : not r ≡ false) where
-    both : (headerOk (decodeTable t .header) && eqb (length t) (recordAt (widthOf t) (slots (decodeTable t)))) ≡ true
-    both = sym framed-are ∙ not-false r q
+  pub whole-by : (ok : Bool) (w n : ℕ) → ok ≡ headerOk h → not ok ≡ false → w ≡ widthIn h → n ≡ recordAt w (h .geometry .slots) → length t ≡ n → Whole t h (h .geometry .slots)
+  whole-by ok w n p q ew en l =
+      let y : headerOk h ≡ true = sym p ∙ not-false ok q in
+      let g = header-groups h y in
+      let c : h .geometry .slots ≡ slots (decodeTable t) = ap (λ (g : Header). g .geometry .slots) e in
+      record {
+        long = rw c (omega (arith, l, by-header w n ew en));
+        header = e;
+        slots = c;
+        few = header-slots h y;
+        some = g .some;
+        most = header-count h y;
+        low = header-high h y;
+      }
 
-    length-is : length t ≡ recordAt (widthOf t) (slots (decodeTable t))
-    length-is = eqb-true _ _ (and-right (headerOk (decodeTable t .header)) _ both)
-
-    header-is : headerOk h ≡ true
-    header-is = ap headerOk e ∙ and-left _ _ both
-
-    pub framed-length : length t ≡ recordAt (widthOf t) (slots (decodeTable t))
-    framed-length = length-is
-
-    -- a header with other counts than the table's
-    pub framed-whole : (g : Header) → g ≡ counted h (g .counts) → Whole t g (h .geometry .slots)
-    framed-whole g eg =
-        let c : h .geometry .slots ≡ slots (decodeTable t) = ap (λ (g : Header). g .geometry .slots) e in
-        let s : g .settings ≡ h .settings = ap (λ (g : Header). g .settings) eg in
-        record {
-          long = rw c (omega (arith, length-is));
-          header = eg ∙ ap (λ (x : Header). counted x (g .counts)) e;
-          slots = c;
-          few = header-slots h header-is;
-          some = subst (λ (x : Settings). 1 ≤ x .count) (sym s) (header-groups h header-is .some);
-          most = subst (λ (x : Settings). x .count ≤ 3) (sym s) (header-count h header-is);
-          low = subst (λ (x : Settings). limitOf (x .limit) + 1 < 256) (sym s) (header-high h header-is);
-        }
-
-    pub framed-sound : (n : Counts) (b : Bool) → b ≡ (slotsOk (decodeTable t) && (addressesOk (decodeTable t) && countsAre (decodeTable t) n)) → b ≡ soundWith t n
-    unfolding soundWith
-    framed-sound n b eb =
-        let a : headerOk (decodeTable t .header) ≡ true = and-left _ _ both in
-        let d : eqb (length t) (recordAt (widthOf t) (slots (decodeTable t))) ≡ true = eq-eqb _ _ length-is in
-        eb ∙ rw (a, d)
+  pub body-by : (ok r : Bool) (w n : ℕ) → 32 ≤ length t → ok ≡ headerOk h → not ok ≡ false → w ≡ widthIn h → n ≡ recordAt w (h .geometry .slots) → length t ≡ n
+      → r ≡ (slotsOk (decodeTable t) && (addressesOk (decodeTable t) && countsOk (decodeTable t))) → r ≡ sound t
+  body-by ok r w n l p q ew en k er = er ∙ body-sound t l (ap headerOk (sym e) ∙ sym p ∙ not-false ok q) (k ∙ by-header w n ew en)
 
 -- ---- fewer than two records in use have no address twice
 
@@ -232,9 +201,9 @@ forms-law t own gs h n high s w eo eg eh es =
     let x : high ≡ highSync (decodeTable t .header) = eh ∙ ap (λ (g : Header). highSync g) (w .header) in
     rw (es, o, g, x, n′) refl
 
-counted-right : (T : Table) (n : Counts) → countsAre T n ≡ true → n .used ≡ usedCount T
-unfolding countsAre
-counted-right T n z = eqb-true _ _ (and-left _ _ z)
+counted-right : (t : List ℕ) (h : Header) (n : ℕ) → Whole t h n → countsOk (decodeTable t) ≡ true → h .counts .used ≡ usedCount (decodeTable t)
+unfolding countsOk
+counted-right t h n w z = ap (λ (g : Header). g .counts .used) (w .header) ∙ eqb-true _ _ (and-left _ _ z)
 
 none : (x : Bool) → (x && false) ≡ false
 none true = refl
@@ -242,15 +211,15 @@ none false = refl
 
 -- what `body_ok` shows: where the count is wrong, the addresses do not tell
 pub body-law : (t own gs : List ℕ) (h : Header) (n high : ℕ) (s a c : Bool) → Whole t h n → own ≡ h .own → gs ≡ groupsOf h → high ≡ highSync h
-    → s ≡ allBelow (λ k. peerOk own gs high (slot (decodeTable t) k)) n → (h .counts .used ≡ usedCount (decodeTable t) → a ≡ addressesOk (decodeTable t)) → c ≡ countsAre (decodeTable t) (h .counts)
-    → (s && (a && c)) ≡ (slotsOk (decodeTable t) && (addressesOk (decodeTable t) && countsAre (decodeTable t) (h .counts)))
-body-law t own gs h n high s a c w eo eg eh es ea ec = ap (λ (x : Bool). x && (a && c)) slots-are ∙ ap (λ (x : Bool). slotsOk (decodeTable t) && x) (go (cases (countsAre (decodeTable t) (h .counts))))
+    → s ≡ allBelow (λ k. peerOk own gs high (slot (decodeTable t) k)) n → (h .counts .used ≡ usedCount (decodeTable t) → a ≡ addressesOk (decodeTable t)) → c ≡ countsOk (decodeTable t)
+    → (s && (a && c)) ≡ (slotsOk (decodeTable t) && (addressesOk (decodeTable t) && countsOk (decodeTable t)))
+body-law t own gs h n high s a c w eo eg eh es ea ec = ap (λ (x : Bool). x && (a && c)) slots-are ∙ ap (λ (x : Bool). slotsOk (decodeTable t) && x) (go (cases (countsOk (decodeTable t))))
   where
     slots-are : s ≡ slotsOk (decodeTable t)
     slots-are = forms-law t own gs h n high s w eo eg eh es
 
-    go : (countsAre (decodeTable t) (h .counts) ≡ true) ⊎ (countsAre (decodeTable t) (h .counts) ≡ false) → (a && c) ≡ (addressesOk (decodeTable t) && countsAre (decodeTable t) (h .counts))
-    go (inl z) = rw (ec, ea (counted-right (decodeTable t) (h .counts) z)) refl
+    go : (countsOk (decodeTable t) ≡ true) ⊎ (countsOk (decodeTable t) ≡ false) → (a && c) ≡ (addressesOk (decodeTable t) && countsOk (decodeTable t))
+    go (inl z) = rw (ec, ea (counted-right t h n w z)) refl
     go (inr z) = rw (ec, z) (none a ∙ sym (none (addressesOk (decodeTable t))))
 
 -- what `find`, `free_slot` and `enter` show
@@ -414,9 +383,8 @@ record-bound W n h l =
 
 -- the slots below n, and each of them
 pub whole-reaches : (t : List ℕ) (h : Header) (n w : ℕ) → Whole t h n → w ≡ widthIn h → w ≤ width → Reaches t w n
-unfolding decodeTable
 whole-reaches t h n w O e m =
-    let z : w ≡ widthOf t = e ∙ ap widthIn (O .header) in
+    let z : w ≡ widthOf t = width-told t h w (O .header) e in
     record { told = z; most = m; long = subst (λ (W : ℕ). recordAt W n ≤ length t) (sym z) (O .long) }
 
 pub reach : (t : List ℕ) (w n k : ℕ) → Reaches t w n → k < n → Reached t w k

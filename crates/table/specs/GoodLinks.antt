@@ -9,9 +9,9 @@ use Rattle.octets.specs.Octets.{Bytes, oct, put}
 use Rattle.octets.specs.Scan.{if_then_else_}
 use Rattle.record.specs.declared.Counts.{Counts}
 use Rattle.record.specs.declared.Header.{Header}
-use Rattle.record.specs.Layout.{decodeHeader, counted}
+use Rattle.record.specs.Layout.{decodeHeader, recordAt}
 use Rattle.soundness.specs.Soundness.{headerOk}
-use Rattle.table.specs.Table.{decodeTable, goodCount, sound}
+use Rattle.table.specs.Table.{widthOf, decodeTable, slots, goodCount, sound}
 
 -- ---- "A call fills the field, right or wrong before, in a table otherwise sound; any other gets 2."
 
@@ -23,9 +23,9 @@ filled t = put t 12 (oct 2 (goodCount (decodeTable t)))
 unfoldable pub fills : List ℕ → List ℕ
 fills t = if sound (filled t) then filled t else t
 
--- the same count in a header
-abbrev pub withGood : Header → ℕ → Header
-withGood h n = counted h (record { used = h .counts .used; opened = h .counts .opened; good = n })
+-- where the records can be counted: as many octets as the header tells, of at most 64 slots
+unfoldable pub countable : List ℕ → Bool
+countable t = leb 32 (length t) && (leb (slots (decodeTable t)) 64 && eqb (length t) (recordAt (widthOf t) (slots (decodeTable t))))
 
 -- ---- "it refuses 2 exactly when it is not given 32 octets or no sound table starts with them"
 

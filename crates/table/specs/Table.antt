@@ -116,16 +116,12 @@ alone T k = not (inUse (slot T k)) || allBelow (λ j. not (belongs (slot T k .ad
 unfoldable pub addressesOk : Table → Bool
 addressesOk T = allBelow (alone T) (slots T)
 
--- the counts are those of the records
-unfoldable pub countsAre : Table → Counts → Bool
-countsAre T n =
-    eqb (n .used) (countsOf T .used)
-    && (eqb (n .opened) (countsOf T .opened)
-    && eqb (n .good) (countsOf T .good))
-
 -- the header's counts are true
-abbrev pub countsOk : Table → Bool
-countsOk T = countsAre T (T .header .counts)
+unfoldable pub countsOk : Table → Bool
+countsOk T =
+    eqb (T .header .counts .used) (countsOf T .used)
+    && (eqb (T .header .counts .opened) (countsOf T .opened)
+    && eqb (T .header .counts .good) (countsOf T .good))
 
 -- "The table's length is 32 + 864 × N", or 32 + 1,080 × N: by the form that the record size tells, never the other way round
 unfoldable pub sound : List ℕ → Bool
@@ -192,10 +188,10 @@ key p = if inUse p then num (p .address) + 1 else 0
 unfoldable pub newKey : List ℕ → ℕ → Bool
 newKey keys k = eqb (getD keys k 0) 0 || allBelow (λ j. not (eqb (getD keys j 0) (getD keys k 0))) k
 
--- what the tests on the slots ask: the header, of the right form, its counts or others, and the number of slots
+-- what the tests on the slots ask: the header, of the right form, and the number of slots
 pub record Whole (t : List ℕ) (h : Header) (n : ℕ) : Type 0 where
   pub long : recordAt (widthOf t) n ≤ length t
-  pub header : h ≡ counted (decodeTable t .header) (h .counts)
+  pub header : h ≡ decodeTable t .header
   pub slots : n ≡ slots (decodeTable t)
   pub few : n ≤ 64
   pub some : 1 ≤ h .settings .count

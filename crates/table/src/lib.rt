@@ -7,10 +7,10 @@ ghost use lib.Dec.{eqb};
 ghost use lib.ListN.{length, getD, replicate};
 ghost use Rattle.octets.specs.Octets.{num};
 ghost use Rattle.octets.specs.Scan.{allBelow, countBelow, firstBelow, lastBelow, bit};
-ghost use Rattle.record.specs.Layout.{encodeHeader, counted, recordAt, widthIn};
-ghost use Rattle.soundness.specs.Soundness.{headerOk, peerOk};
-ghost use Rattle.table.specs.Table.{decodeTable, encodeTable, slots, slot, inUse, isOpen, isGood, finds, freeSlot, usedCount, countsOf, slotsOk, alone, addressesOk, countsAre, sound, entry, recounted, key, newKey, standingOf, Changed, Whole, Headed, Reaches, Reached, Sized, Looked, Checks, Enters};
-ghost use Rattle.table.specs.GoodLinks.{headerPossible, withGood, filled, fills};
+ghost use Rattle.record.specs.Layout.{encodeHeader};
+ghost use Rattle.soundness.specs.Soundness.{peerOk};
+ghost use Rattle.table.specs.Table.{decodeTable, encodeTable, slots, slot, inUse, isOpen, isGood, finds, freeSlot, usedCount, countsOf, slotsOk, alone, addressesOk, countsOk, sound, entry, recounted, key, newKey, standingOf, Changed, Whole, Headed, Reaches, Reached, Sized, Looked, Checks, Enters};
+ghost use Rattle.table.specs.GoodLinks.{headerPossible, countable, filled, fills};
 ghost use Rattle.table.specs.Initial.{made, slotsFor, lengthOk, initialHeader, initialOk, initial};
 use octets::Found;
 use record::ADDRESS;
@@ -284,19 +284,19 @@ fn addresses_ok(t: &[u8], w: usize, n: usize, used: u16) -> bool
     differ_in(t, w, n, &mut keys[..])
 }
 
-// Whether the counts are those of the records.
-fn counts_ok(t: &[u8], w: usize, c: Counts, n: usize) -> bool
-    requires { ⌜ Reaches (now t) w n × ((n ≤ 64) × (n ≡ slots (decodeTable (now t)))) ⌝ }
-    ensures { λ r. ⌜ r ≡ countsAre (decodeTable (now (t .entry))) c ⌝ }
+fn counts_ok(t: &[u8], w: usize, h: Header, n: usize) -> bool
+    requires { ⌜ Reaches (now t) w n × ((n ≤ 64) × ((h ≡ decodeTable (now t) .header) × (n ≡ slots (decodeTable (now t))))) ⌝ }
+    ensures { λ r. ⌜ r ≡ countsOk (decodeTable (now (t .entry))) ⌝ }
 {
     let counts = counts_below(t, w, n);
-    (c.used == counts.used) & ((c.opened == counts.opened) & (c.good == counts.good))
+    (h.counts.used == counts.used)
+        & ((h.counts.opened == counts.opened) & (h.counts.good == counts.good))
 }
 
-// The slots, their addresses and the header's counts, under a header of the right form.
+// The slots, their addresses and the counts, under a header of the right form.
 fn body_ok(t: &[u8], h: Header, n: usize) -> bool
     requires { ⌜ Whole (now t) h n ⌝ }
-    ensures { λ r. ⌜ r ≡ (slotsOk (decodeTable (now (t .entry))) && (addressesOk (decodeTable (now (t .entry))) && countsAre (decodeTable (now (t .entry))) (h .counts))) ⌝ }
+    ensures { λ r. ⌜ r ≡ (slotsOk (decodeTable (now (t .entry))) && (addressesOk (decodeTable (now (t .entry))) && countsOk (decodeTable (now (t .entry))))) ⌝ }
 {
     let own = h.own;
     let gs = h.settings.groups;
@@ -305,7 +305,7 @@ fn body_ok(t: &[u8], h: Header, n: usize) -> bool
     let w = record::width_of(h);
     let slots = slots_ok(t, w, n, own, &gs[..m], high);
     let addresses = addresses_ok(t, w, n, h.counts.used);
-    let counts = counts_ok(t, w, h.counts, n);
+    let counts = counts_ok(t, w, h, n);
     slots & (addresses & counts)
 }
 
@@ -316,27 +316,19 @@ pub fn header_of(t: &[u8]) -> Header
     record::load_header(t)
 }
 
-// Whether the header has its form, and the table the length that it tells.
-fn is_framed(t: &[u8], h: Header) -> bool
-    ensures { λ r. ⌜ r ≡ (headerOk h && eqb (length (now (t .entry))) (recordAt (widthIn h) (h .geometry .slots))) ⌝ }
+// The whole form of a table under its header.
+fn is_whole(t: &[u8], h: Header) -> bool
+    requires { ⌜ Headed (now t) h ⌝ }
+    ensures { λ r. ⌜ r ≡ sound (now (t .entry)) ⌝ }
 {
     if !soundness::header_ok(h) {
         return false;
     }
     let n = h.geometry.slots as usize;
     let w = record::width_of(h);
-    t.len() == record::record_at(w, n)
-}
-
-// The whole form of a table under its header.
-fn is_whole(t: &[u8], h: Header) -> bool
-    requires { ⌜ Headed (now t) h ⌝ }
-    ensures { λ r. ⌜ r ≡ sound (now (t .entry)) ⌝ }
-{
-    if !is_framed(t, h) {
+    if t.len() != record::record_at(w, n) {
         return false;
     }
-    let n = h.geometry.slots as usize;
     body_ok(t, h, n)
 }
 
@@ -483,57 +475,51 @@ pub fn recount(t: &mut [u8], k: usize, h: Header, was: Standing)
 
 // ---- how many good links
 
-// Whether some sound table has this header: its fields, and what the counts of so many slots can be.
+// Whether some sound table has this header: its fields, and what the counts of so many slots can be. `header_ok` is not called: with a second caller the
+// compiler would no longer put it into the test of a table, which every call makes.
 pub fn is_possible(h: Header) -> bool
     ensures { λ r. ⌜ r ≡ headerPossible h ⌝ }
 {
     let n = h.geometry.slots;
     let used = h.counts.used;
-    let header = soundness::header_ok(h);
-    header & ((h.counts.opened <= used) & ((used <= n) & (h.counts.good <= used)))
+    let s = h.settings;
+    let form = record::form_of(h.geometry.size);
+    let bounds = soundness::bounds_ok(form, h);
+    let settings = soundness::settings_ok(form, s);
+    (bounds & settings)
+        & ((h.counts.opened <= used) & ((used <= n) & (h.counts.good <= used)))
 }
 
-// The header with another count of good links.
-fn with_good(h: Header, n: u16) -> Header
-    ensures { λ r. ⌜ r ≡ withGood h n ⌝ }
-{
-    let own = h.own;
-    let geometry = h.geometry;
-    let settings = h.settings;
-    Header {
-        geometry: geometry,
-        counts: Counts {
-            used: h.counts.used,
-            opened: h.counts.opened,
-            good: n,
-        },
-        spare: h.spare,
-        own: own,
-        settings: settings,
-    }
-}
-
-// The true count of good links goes into the header of a table otherwise sound, or, false, cause 2 holds and every octet stays. The count that is there is
-// not looked at.
-pub fn fill_good(t: &mut [u8]) -> bool
-    ensures { λ r. ⌜ (r ≡ sound (filled (now (t .entry)))) × (now (t .exit) ≡ fills (now (t .entry))) ⌝ }
+// Whether the octets are as many as the header tells, of at most 64 slots.
+fn is_countable(t: &[u8]) -> bool
+    ensures { λ r. ⌜ r ≡ countable (now (t .entry)) ⌝ }
 {
     if t.len() < HEADER {
         return false;
     }
     let h = header_of(t);
-    if !is_framed(t, h) {
-        return false;
-    }
     let n = h.geometry.slots as usize;
     let w = record::width_of(h);
-    let counts = counts_below(t, w, n);
-    let full = with_good(h, counts.good);
-    if !body_ok(t, full, n) {
+    (n <= 64) & (t.len() == record::record_at(w, n))
+}
+
+// The true count of good links goes into the header of a table otherwise sound, or, false, cause 2 holds and every octet stays. The count that is there is
+// not looked at; it is put back where the table is not sound with the true one.
+pub fn fill_good(t: &mut [u8]) -> bool
+    ensures { λ r. ⌜ (r ≡ sound (filled (now (t .entry)))) × (now (t .exit) ≡ fills (now (t .entry))) ⌝ }
+{
+    if !is_countable(t) {
         return false;
     }
+    let h = header_of(t);
+    let w = record::width_of(h);
+    let counts = counts_below(t, w, h.geometry.slots as usize);
     record::set_good(t, counts.good);
-    true
+    let filled = is_sound(t);
+    if !filled {
+        record::set_good(t, h.counts.good);
+    }
+    filled
 }
 
 // ---- set up

@@ -10,14 +10,11 @@ use Rattle.soundness.proofs.header_ok.Tie as tie
 form-of-requires : tie.Need-form-of-requires
 form-of-requires c κs = search needs
 
-geometry-ok-requires : tie.Need-geometry-ok-requires
-geometry-ok-requires c κs = search needs
-
-own-ok-requires : tie.Need-own-ok-requires
-own-ok-requires c κs = search needs
+bounds-ok-requires : tie.Need-bounds-ok-requires
+bounds-ok-requires c κs = search needs
 
 settings-ok-requires : tie.Need-settings-ok-requires
-settings-ok-requires c κs = subst (λ (f : Form). f .groups ≤ 3) (sym (c .before .before .form-of .ensures)) (form-groups _)
+settings-ok-requires c κs = subst (λ (f : Form). f .groups ≤ 3) (sym (c .before .form-of .ensures)) (form-groups _)
 
 returns : tie.Need-returns
 unfolding headerOk
@@ -26,4 +23,4 @@ returns c = cc
 pub header-ok-spec : {M : Type 1} → statement M
 header-ok-spec =
     tie.close
-    (tie.spec form-of-requires geometry-ok-requires own-ok-requires settings-ok-requires returns)
+    (tie.spec form-of-requires bounds-ok-requires settings-ok-requires returns)

@@ -46,7 +46,7 @@ addresses-ok-requires c κs =
 counts-ok-requires : tie.Need-counts-ok-requires
 counts-ok-requires c κs =
     let k = c .before .before .before .before .before .before .before .before .before in
-    (whole-reaches _ (k .args .h) _ _ (k .pre) (c .before .before .before .width-of .ensures .0) (c .before .before .before .width-of .ensures .1), (k .pre .few, k .pre .slots))
+    (whole-reaches _ (k .args .h) _ _ (k .pre) (c .before .before .before .width-of .ensures .0) (c .before .before .before .width-of .ensures .1), (k .pre .few, (k .pre .header, k .pre .slots)))
 
 returns : tie.Need-returns
 returns c =

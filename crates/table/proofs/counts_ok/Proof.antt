@@ -1,4 +1,4 @@
-use Rattle.table.specs.Table.{countsAre, usedCount, openCount, goodCount}
+use Rattle.table.specs.Table.{countsOk, usedCount, openCount, goodCount}
 use borrow.Author.Needs.{needs}
 use Rattle.table.proofs.counts_ok.Statement.{statement}
 use Rattle.table.proofs.counts_ok.Tie as tie
@@ -7,7 +7,7 @@ counts-below-requires : tie.Need-counts-below-requires
 counts-below-requires c κs = search needs
 
 returns : tie.Need-returns
-unfolding countsAre usedCount openCount goodCount
+unfolding countsOk usedCount openCount goodCount
 returns c = cc
 
 pub counts-ok-spec : {M : Type 1} → statement M
