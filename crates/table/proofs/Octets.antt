@@ -1,16 +1,18 @@
 -- The table's octets and the table as a value: the round trips, and a record stored.
 use mathlib.Core.Path.{_≡_, refl, sym, ap, _∙_, subst}
 use mathlib.Core.Logic.{_⊎_, inl, inr}
-use mathlib.Core.Bool.{_&&_}
+use mathlib.Core.Bool.{false, _&&_}
 use mathlib.Core.List.{List, [], _∷_, _++_, append-assoc}
-use Prim.Native.Nat.{ℕ, zero, suc, _+_, _-_, _*_, _/_, _≤_, _<_}
+use Prim.Native.Nat.{ℕ, zero, suc, _+_, _-_, _*_, _/_, _^_, _≤_, _<_}
 use native.Mathlib.Omega.{arith}
+use native.Mathlib.Decide.{ℕ-discrete}
+use borrow.Author.Tests.{eq-eqb, ne-eqb}
 use native.Mathlib.Nat.{mul-suc, mul-zero, mul-comm, le-div-iff-mul-le, mul-div-cancel-left}
 use lib.Dec.{eqb}
 use lib.ListN.{length, take, drop, getD, set, length-append, length-drop, take-append-drop}
 use lib.Seq.{length-take-le, take-at, drop-at, take-add, drop-drop}
 use Rattle.octets.specs.Octets.{part, put, num, oct, Bytes}
-use Rattle.octets.proofs.Laws.{bytes-part, bytes-drop, bytes-append, part-part, length-part, length-put, length-oct, part-put-before, part-put-after}
+use Rattle.octets.proofs.Laws.{get-law, bytes-part, bytes-drop, bytes-append, part-part, length-part, length-put, length-oct, part-put-before, part-put-after}
 use Rattle.groups.specs.Groups.{width}
 use Rattle.record.specs.declared.Counts.{Counts}
 use Rattle.record.specs.Layout.{encodePeer, decodePeer, encodeHeader, decodeHeader, counted, widthIn, linkAt, recordSize, recordAt, noPeer}
@@ -299,6 +301,17 @@ bytes-table T f = bytes-append (encodeHeader (T .header)) (octetsOf (widthIn (T 
 
 -- ---- what the readers of a slot show
 
+-- two octets that are 1 and 0 are the number 1
+two-octets : (n x y : ℕ) → n ≡ x + 256 * y → x < 256 → eqb n 1 ≡ (eqb x 1 && eqb y 0)
+two-octets n x y e h = elim (ℕ-discrete n 1) [
+  | yes q ↦ let p : x ≡ 1 = omega (arith, e, q, h) in let z : y ≡ 0 = omega (arith, e, q, h) in rw (eq-eqb n 1 q, eq-eqb x 1 p, eq-eqb y 0 z)
+  | no d ↦ rw (ne-eqb n 1 d) (sym (other (ℕ-discrete x 1) d))
+]
+  where
+    other : Dec (x ≡ 1) → (n ≡ 1 → ⊥) → (eqb x 1 && eqb y 0) ≡ false
+    other (yes p) d = let z : eqb y 0 ≡ false = ne-eqb y 0 (λ q. d (omega (arith, e, p, q))) in rw (eq-eqb x 1 p, z)
+    other (no p) d = rw (ne-eqb x 1 p)
+
 module _ (t : List ℕ) (w k a : ℕ) (R : Reached t w k) (e : a ≡ recordAt w k) where
   slot-in : slot (decodeTable t) k ≡ recordIn w t k
   slot-in = slot-at t k (subst (λ (W : ℕ). recordAt W k + recordSize W ≤ length t) (R .told) (R .long)) ∙ ap (λ (W : ℕ). recordIn W t k) (sym (R .told))
@@ -310,11 +323,17 @@ module _ (t : List ℕ) (w k a : ℕ) (R : Reached t w k) (e : a ≡ recordAt w 
   state-at-law r q = q ∙ ap (λ (x : ℕ). num (part t (x + 7) 1)) e ∙ sym (ap (λ (p : Peer). p .run .state) slot-in ∙ state-of w t k)
 
   -- the two octets of a link that tell whether it is good
-  pub good-at-law : (l f s : ℕ) → l ≡ linkAt w → f ≡ num (part t (a + (l + 0)) 1) → s ≡ num (part t (a + (l + 1)) 1) → (eqb f 1 && eqb s 0) ≡ isGood (slot (decodeTable t) k)
-  good-at-law l f s el p q =
-      let fe : f ≡ slot (decodeTable t) k .link .finished = p ∙ (λ i. num (part t (e i + (el i + 0)) 1)) ∙ sym (ap (λ (p : Peer). p .link .finished) slot-in ∙ finished-of w t k) in
-      let se : s ≡ slot (decodeTable t) k .link .superseded = q ∙ (λ i. num (part t (e i + (el i + 1)) 1)) ∙ sym (ap (λ (p : Peer). p .link .superseded) slot-in ∙ superseded-of w t k) in
-      λ i. eqb (fe i) 1 && eqb (se i) 0
+  pub good-at-law : (l n : ℕ) → Bytes t → l ≡ linkAt w → n ≡ num (part t (a + (l + 0)) 2) → eqb n 1 ≡ isGood (slot (decodeTable t) k)
+  good-at-law l n b el q =
+      let at = recordAt w k + (linkAt w + 0) in
+      let room : at + 2 ≤ length t = omega (arith, R .long) in
+      let next : recordAt w k + (linkAt w + 1) ≡ at + 1 = omega arith in
+      let f : slot (decodeTable t) k .link .finished ≡ num (part t at 1) = ap (λ (p : Peer). p .link .finished) slot-in ∙ finished-of w t k in
+      let s : slot (decodeTable t) k .link .superseded ≡ num (part t (at + 1) 1) =
+      ap (λ (p : Peer). p .link .superseded) slot-in ∙ superseded-of w t k ∙ ap (λ (x : ℕ). num (part t x 1)) next in
+      let both : num (part t at 1) + 256 ^ 1 * num (part t (at + 1) 1) ≡ num (part t at 2) = get-law 1 1 t at _ _ _ (omega (arith, room)) refl refl refl in
+      let m : n ≡ num (part t at 1) + 256 * num (part t (at + 1) 1) = q ∙ (λ i. num (part t (e i + (el i + 0)) 2)) ∙ sym both in
+      two-octets n (num (part t at 1)) (num (part t (at + 1) 1)) m (num-part t b at 1 (omega (arith, room))) ∙ (λ i. eqb (sym f i) 1 && eqb (sym s i) 0)
 
   pub address-at-law : (r : List ℕ) → r ≡ part t (a + 1) 6 → r ≡ slot (decodeTable t) k .address
   address-at-law r q = q ∙ ap (λ (x : ℕ). part t (x + 1) 6) e ∙ sym (ap (λ (p : Peer). p .address) slot-in ∙ address-of w t k)

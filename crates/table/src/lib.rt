@@ -21,7 +21,6 @@ use record::HEADER;
 use record::Header;
 use record::RUN;
 use record::STATE;
-use record::SUPERSEDED;
 use record::Settings;
 use record::USED;
 
@@ -98,16 +97,14 @@ pub fn is_open(t: &[u8], w: usize, k: usize) -> bool
     (state == 1) | (state == 2)
 }
 
-// Finished, with a clear mark.
-pub fn is_good(t: &[u8], w: usize, k: usize) -> bool
+// Finished, with a clear mark: the two octets read as one number.
+fn is_good(t: &[u8], w: usize, k: usize) -> bool
     requires { ⌜ Reached (now t) w k ⌝ }
     ensures { λ r. ⌜ r ≡ isGood (slot (decodeTable (now (t .entry))) k) ⌝ }
 {
     let a = record::record_at(w, k);
     let l = record::link_at(w);
-    let finished = octets::get8(t, a + (l + FINISHED));
-    let superseded = octets::get8(t, a + (l + SUPERSEDED));
-    (finished == 1) & (superseded == 0)
+    octets::get16(t, a + (l + FINISHED)) == 1
 }
 
 fn has(t: &[u8], w: usize, k: usize, x: u64) -> bool
@@ -486,8 +483,7 @@ pub fn is_possible(h: Header) -> bool
     let form = record::form_of(h.geometry.size);
     let bounds = soundness::bounds_ok(form, h);
     let settings = soundness::settings_ok(form, s);
-    (bounds & settings)
-        & ((h.counts.opened <= used) & ((used <= n) & (h.counts.good <= used)))
+    (bounds & settings) & ((h.counts.opened <= used) & ((used <= n) & (h.counts.good <= used)))
 }
 
 // Whether the octets are as many as the header tells, of at most 64 slots.
