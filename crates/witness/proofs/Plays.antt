@@ -327,10 +327,10 @@ unfolding octets.part octets.put octets.num octets.oct octets.allZero octets.sam
     layout.recordAt layout.formOf layout.headerWidths layout.frontFields layout.backFields layout.headerFields layout.headerFront layout.headerBack
     layout.headerOf layout.encodeHeader layout.decodeHeader layout.noRun layout.noLink layout.noPeer layout.periodOf layout.limitOf
     settings-octets.settingsOf settings-octets.reservedZero soundness.ownOk soundness.usable soundness.eachOnce soundness.groupsOk soundness.periodOk soundness.limitOk
-    soundness.settingsOk soundness.geometryOk soundness.headerOk soundness.commitOk soundness.tokenOk soundness.rejectedOk soundness.committedOk
+    soundness.settingsOk soundness.geometryOk soundness.boundsOk soundness.headerOk soundness.commitOk soundness.tokenOk soundness.rejectedOk soundness.committedOk
     soundness.confirmedOk soundness.runOk soundness.finishedOk soundness.linkOk soundness.freeOk soundness.inUseOk soundness.peerOk
     soundness.allListable tables.peersOf tables.octetsOf tables.decodeTable tables.encodeTable tables.slot tables.belongs tables.usedCount
-    tables.openCount tables.finds tables.freeSlot tables.lookBy tables.look tables.slotsOk tables.alone tables.addressesOk tables.countsAre tables.goodCount
+    tables.openCount tables.finds tables.freeSlot tables.lookBy tables.look tables.slotsOk tables.alone tables.addressesOk tables.countsOk tables.goodCount
     tables.sound tables.foundEntry tables.entry tables.recounted tables.withPeer tables.key tables.newKey initial.slotsFor initial.lengthOk
     initial.initialHeader initial.initialTable initial.initialOk parts.switched parts.withRun book.deadline book.holds book.linkedWith book.startAct
     book.commitIdle book.commitCommitted book.confirmConfirmed book.commitAct book.confirmAct book.frameAct book.delay book.setT0 book.supersede
