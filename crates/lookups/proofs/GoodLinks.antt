@@ -1,6 +1,6 @@
 -- How many good links: the question is answered exactly where a sound table starts with the octets handed over, and on a sound table with the count over all
 -- records.
-use mathlib.Core.Path.{_≡_, refl, sym, ap, _∙_}
+use mathlib.Core.Path.{_≡_, sym, ap, _∙_}
 use mathlib.Core.Logic.{_⊎_, inl, inr}
 use mathlib.Core.Bool.{Bool, true, false, not}
 use mathlib.Core.List.{List}
@@ -9,14 +9,13 @@ use native.Mathlib.Omega.{arith}
 use lib.ListN.{length, take}
 use borrow.Author.Tests.{eq-eqb, ne-eqb, not-true, not-false}
 use Rattle.octets.specs.Octets.{Bytes}
-use Rattle.octets.proofs.Scan.{cases, clash}
+use Rattle.octets.proofs.Scan.{cases}
 use Rattle.record.specs.declared.Header.{Header}
 use Rattle.record.specs.Layout.{decodeHeader}
 use Rattle.table.specs.Table.{decodeTable, goodCount, sound}
 use Rattle.table.specs.GoodLinks.{Starts, headerPossible, possible}
 use Rattle.table.proofs.Possible.{starts-possible, possible-starts, sound-starts, front-good}
 use Rattle.answers.specs.declared.Refusal.the-variants as why
-use Rattle.lookups.specs.declared.Asked.{Asked}
 use Rattle.lookups.specs.declared.Asked.the-variants as asked
 use Rattle.lookups.specs.Lookups.{asksGood}
 

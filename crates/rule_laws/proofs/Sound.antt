@@ -2,12 +2,11 @@
 use mathlib.Core.Path.{_≡_, refl, sym, subst}
 use mathlib.Core.Bool.{Bool, true, false}
 use mathlib.Core.List.{List}
-use Prim.Native.Nat.{ℕ, zero, suc, _+_, _≤_, _<_}
+use Prim.Native.Nat.{ℕ, _+_, _≤_, _<_}
 use native.Mathlib.Omega.{arith}
 use lib.Dec.{lit<, lit≤}
-use lib.ListN.{length, replicate, length-replicate}
+use lib.ListN.{length, length-replicate}
 use Rattle.octets.specs.Scan.{if_then_else_}
-use Rattle.octets.specs.Octets.{Bytes}
 use Rattle.octets.proofs.Scan.{clash}
 use Rattle.octets.proofs.Tests.{zero-zeros}
 use Rattle.groups.specs.Groups.{width, listed}

@@ -6,7 +6,6 @@ use native.Mathlib.Omega.{arith}
 use lib.ListN.{length, take, drop, getD, set, length-drop}
 use lib.Seq.{length-take-le}
 use Rattle.octets.specs.Octets.{part, Bytes}
-use lib.Dec.{lit<}
 use Rattle.octets.proofs.Laws.{bytes-part, bytes-drop}
 use Rattle.octets.proofs.Scan.{count-le}
 use Rattle.groups.specs.Groups.{width}

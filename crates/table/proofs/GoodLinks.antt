@@ -1,9 +1,9 @@
 -- How many good links: what a fill leaves; and a sound table starts with 32 octets exactly where they are possible.
-use mathlib.Core.Path.{_≡_, refl, sym, ap, _∙_, subst}
+use mathlib.Core.Path.{_≡_, refl, sym, ap, _∙_}
 use mathlib.Core.Logic.{_⊎_, inl, inr}
 use mathlib.Core.Bool.{Bool, true, false, not, _&&_}
 use mathlib.Core.List.{List, [], _∷_, _++_}
-use Prim.Native.Nat.{ℕ, zero, suc, _+_, _-_, _≤_, _<_}
+use Prim.Native.Nat.{ℕ, zero, suc, _+_, _≤_, _<_}
 use native.Mathlib.Omega.{arith}
 use lib.Dec.{eqb, leb, lit<}
 use lib.ListN.{length, take, drop, length-append, length-drop, take-append-drop}
@@ -11,7 +11,7 @@ use lib.Seq.{take-at, drop-at}
 use native.Mathlib.Decide.{decLt}
 use borrow.Author.Tests.{eqb-true, leb-true, eq-eqb, le-leb, lt-leb, not-true, not-false}
 use Rattle.octets.specs.Octets.{Bytes, num, oct, part, put}
-use Rattle.octets.specs.Scan.{if_then_else_, countBelow}
+use Rattle.octets.specs.Scan.{countBelow}
 use Rattle.octets.proofs.Laws.{length-put, length-oct, oct-part, put-part}
 use Rattle.octets.proofs.Scan.{clash, cases, and-left, and-right, and-both, count-le}
 use Rattle.groups.specs.Groups.{width}
@@ -20,9 +20,7 @@ use Rattle.record.specs.declared.Header.{Header}
 use Rattle.record.specs.Layout.{encodeHeader, decodeHeader, headerOf, headerWidths, counted, widthIn, recordAt}
 use Rattle.record.specs.Codec.{cut}
 use Rattle.record.proofs.Laws.{ShapeHeader, fit-header, enc-dec-header, dec-enc-header, length-header, header-front, good-put}
-use Rattle.soundness.specs.Soundness.{headerOk}
-use Rattle.soundness.proofs.Laws.{header-slots}
-use Rattle.table.specs.Table.{Table, widthOf, peersOf, decodeTable, slots, slot, isGood, goodCount, sound, Reaches}
+use Rattle.table.specs.Table.{Table, widthOf, decodeTable, slots, slot, isGood, goodCount, sound, Reaches}
 use Rattle.table.specs.GoodLinks.{countable, filled, fills}
 use Rattle.table.proofs.Laws.{sound-long, sound-small, sound-whole, not-long, width-told}
 use Rattle.table.proofs.Kept.{sound-form}

@@ -2,20 +2,20 @@
 use mathlib.Core.Path.{_≡_, refl, sym, ap, _∙_, subst}
 use mathlib.Core.Logic.{_⊎_, inl, inr}
 use mathlib.Core.Bool.{Bool, true, false, not, _&&_, _||_}
-use mathlib.Core.List.{List, [], _∷_, _++_}
-use Prim.Native.Nat.{ℕ, zero, suc, _+_, _-_, _^_, _≤_, _<_}
+use mathlib.Core.List.{List, [], _∷_}
+use Prim.Native.Nat.{ℕ, zero, suc, _+_, _-_, _≤_, _<_}
 use native.Mathlib.Omega.{arith}
 use native.Mathlib.Decide.{ℕ-discrete}
 use lib.Dec.{eqb, leb, ltb, lit<}
-use lib.ListN.{length, take, drop, getD, replicate, length-replicate}
+use lib.ListN.{length, take, getD, replicate, length-replicate}
 use lib.Seq.{length-take-le, take-at, take-all}
-use borrow.Author.Tests.{eqb-true, eqb-false, leb-true, eq-eqb, le-leb, ne-eqb, ltb-true, ltb-false, lt-ltb, le-ltb, not-true, not-false}
+use borrow.Author.Tests.{eqb-true, leb-true, eq-eqb, le-leb, ne-eqb, ltb-true, lt-ltb, le-ltb}
 use Rattle.octets.specs.Octets.{Bytes, num, part, allZero, individual, zeroAddress, sameAddress}
 use Rattle.octets.specs.Scan.{countBelow, bit}
 use Rattle.octets.proofs.Laws.{num-inj}
 use Rattle.octets.proofs.Tests.{zero-zeros}
-use Rattle.octets.proofs.Scan.{clash, cases, and-left, and-right, and-both, bit-le, count-le, count-ext}
-use Rattle.groups.specs.Groups.{width, commitLength, listed, marked, indexOf}
+use Rattle.octets.proofs.Scan.{clash, cases, and-left, and-right, and-both, count-le, count-ext}
+use Rattle.groups.specs.Groups.{width, commitLength, listed, indexOf}
 use Rattle.groups.proofs.Laws.{bytes-zeros, none-marked, pow-pos, drop-zeros}
 use Rattle.record.specs.declared.Run.{Run}
 use Rattle.record.specs.declared.Link.{Link}
@@ -23,7 +23,7 @@ use Rattle.record.specs.declared.Peer.{Peer}
 use Rattle.record.specs.declared.Counts.{Counts}
 use Rattle.record.specs.declared.Header.{Header}
 use Rattle.record.specs.Layout.{encodeHeader, decodeHeader, groupsOf, widthIn, noRun, noLink, noPeer}
-use Rattle.record.proofs.Laws.{FitRun, FitPeer, FitHeader, StorablePeer, shape-peer, fit-header, fit-no-run, fit-no-link, fit-no-peer, header-front, enc-dec-header, length-header}
+use Rattle.record.proofs.Laws.{FitRun, FitPeer, FitHeader, StorablePeer, shape-peer, fit-header, fit-no-run, fit-no-peer, header-front, enc-dec-header, length-header}
 use Rattle.soundness.specs.Soundness.{usable, headerOk, highSync, commitOk, runOk, linkOk, peerOk}
 use Rattle.soundness.proofs.Laws.{no-run-ok, no-peer-ok, peer-unused, peer-in-use, in-use-peer, committed-is-run, finished-is-link, header-groups, header-slots}
 use Rattle.soundness.proofs.Storable.{header-room, peer-storable}
