@@ -21,9 +21,9 @@ pub data Writing : Type 0 where
   writeParts : (sequence status group counter : ℕ) (token rest out : List ℕ) → Writing
   writeRecord : (address : List ℕ) (sequence : ℕ) (value out : List ℕ) → Writing
 
--- "Set up; start; kill; frame received; clock; write a frame", and the one that fills the number of good links, with all that is handed over, the settings as C does. A table may be a fresh one of either
--- form: a set up is told by the record size of the form that it makes. This engine makes the one of 1,080 octets; the one of 864 was made before, and is
--- served; of any other size there is none, and the set up is refused.
+-- "Set up; start; kill; frame received; clock; write a frame", and since request e the fill of the number of good links, with all that is handed over, the
+-- settings as C does. A table may be a fresh one of either form: a set up is told by the record size of the form that it makes. This engine makes the one of
+-- 1,080 octets; the one of 864 was made before, and is served; of any other size there is none, and the set up is refused.
 pub data Call : Type 0 where
   initialize : (size : ℕ) (buffer own settings : List ℕ) → Call
   initiate : (address : List ℕ) (time : ℕ) (fresh : List ℕ) → Call

@@ -71,7 +71,8 @@ offsetBy (At k) W = asked.Number (recordAt W k)
 unfoldable pub asksOffset : List ℕ → List ℕ → Asked
 asksOffset t address = offsetBy (entry t address) (widthOf t)
 
--- ---- how many good links: "The panel's question reads the 32 header octets alone"; cause 2, "exactly when it is not given 32 octets or no sound table starts with them"
+-- ---- how many good links: "The panel's question reads the 32 header octets alone"
 
+-- cause 2, "exactly when it is not given 32 octets or no sound table starts with them"
 unfoldable pub asksGood : List ℕ → Asked
 asksGood header = if possible header then asked.Number (decodeHeader header .counts .good) else asked.Refused why.Unsound

@@ -1,4 +1,4 @@
-// The lent table: its form, its searches, the counts after a record changed, and the table that set up makes.
+// The lent table: its form, its searches, the counts after a record changed, how many good links, and the table that set up makes.
 ghost use mathlib.Core.Path.{_≡_};
 ghost use mathlib.Core.Bool.{true, _&&_};
 ghost use mathlib.Core.List.{_++_};
