@@ -205,9 +205,9 @@ counted-right : (t : List ℕ) (h : Header) (n : ℕ) → Whole t h n → counts
 unfolding countsOk
 counted-right t h n w z = ap (λ (g : Header). g .counts .used) (w .header) ∙ eqb-true _ _ (and-left _ _ z)
 
-none : (x : Bool) → (x && false) ≡ false
-none true = refl
-none false = refl
+pub and-false : (x : Bool) → (x && false) ≡ false
+and-false true = refl
+and-false false = refl
 
 -- what `body_ok` shows: where the count is wrong, the addresses do not tell
 pub body-law : (t own gs : List ℕ) (h : Header) (n high : ℕ) (s a c : Bool) → Whole t h n → own ≡ h .own → gs ≡ groupsOf h → high ≡ highSync h
@@ -220,7 +220,7 @@ body-law t own gs h n high s a c w eo eg eh es ea ec = ap (λ (x : Bool). x && (
 
     go : (countsOk (decodeTable t) ≡ true) ⊎ (countsOk (decodeTable t) ≡ false) → (a && c) ≡ (addressesOk (decodeTable t) && countsOk (decodeTable t))
     go (inl z) = rw (ec, ea (counted-right t h n w z)) refl
-    go (inr z) = rw (ec, z) (none a ∙ sym (none (addressesOk (decodeTable t))))
+    go (inr z) = rw (ec, z) (and-false a ∙ sym (and-false (addressesOk (decodeTable t))))
 
 -- what `find`, `free_slot` and `enter` show
 pub find-law : (t : List ℕ) (n : ℕ) (a : List ℕ) (x : ℕ) (r : Found) → n ≡ slots (decodeTable t) → x ≡ num a

@@ -31,7 +31,7 @@ use Rattle.table.specs.Table.{Table, decodeTable, encodeTable, slot, slo
 use Rattle.table.specs.GoodLinks.{Starts, countsPossible, headerPossible, possible}
 use Rattle.table.proofs.Octets.{FitTable, Fits, none, more, bytes-table}
 use Rattle.table.proofs.Fit.{fit-decoded, fit-slot}
-use Rattle.table.proofs.Laws.{sound-long, sound-header, sound-whole, sound-peer, peers-held}
+use Rattle.table.proofs.Laws.{sound-long, sound-header, sound-whole, sound-peer, and-false, peers-held}
 use Rattle.table.proofs.Kept.{Form, sound-form, form-sound}
 
 -- ---- a sound table starts with possible octets: a record that is open or has a good link is in use
@@ -204,10 +204,6 @@ address-if false o c own g i e = absurd (clash e refl)
 
 address-is : (h : Header) (k : ℕ) → ltb k (h .counts .used) ≡ true → peerAt h k .address ≡ addressOf (h .own) k
 address-is h k = address-if (ltb k (h .counts .used)) (ltb k (h .counts .opened)) (ltb k (h .counts .good)) (h .own) (getD (h .settings .groups) 0 0) k
-
-none-left : (b : Bool) → (b && false) ≡ false
-none-left true = refl
-none-left false = refl
 
 below-too : (m n k : ℕ) → m ≤ n → ltb k m ≡ true → ltb k n ≡ true
 below-too m n k h e = let w = ltb-true k m e in lt-ltb k n (omega (arith, w, h))
@@ -446,7 +442,7 @@ module _ (s : List ℕ) (b : Bytes s) (p : possible s ≡ true) where
           let a : peerAt head i .address ≡ addressOf (head .own) i = address-is head i e in
           let c : peerAt head j .address ≡ addressOf (head .own) j = address-is head j used-j in
           let z : sameAddress (peerAt head i .address) (peerAt head j .address) ≡ false = (λ k. sameAddress (a k) (c k)) ∙ addresses-differ (head .own) i j (omega (arith, few, li)) (omega (arith, few, lj)) d in
-          (λ k. used-at head i k && z k) ∙ none-left (ltb i (head .counts .used))
+          (λ k. used-at head i k && z k) ∙ and-false (ltb i (head .counts .used))
       go (inr e) = ap (λ (b : Bool). b && sameAddress (peerAt head i .address) (peerAt head j .address)) (used-at head i ∙ e)
 
   witness-form : Form (witness head)
