@@ -25,17 +25,19 @@ use Rattle.table.specs.GoodLinks.{countable, filled, fills}
 use Rattle.table.proofs.Laws.{sound-long, sound-small, sound-whole, not-long, width-told}
 use Rattle.table.proofs.Kept.{sound-form}
 
+-- fewer than 32 octets with two of them put stay fewer
 take-most : (n : ℕ) (s : List ℕ) → length (take n s) ≤ n
 take-most zero s = omega arith
 take-most (suc n) [] = omega arith
 take-most (suc n) (x ∷ s) = let w = take-most n s in omega (arith, w)
 
--- ---- what `fill_good` shows
-
 short-put : (t v : List ℕ) → length v ≡ 2 → length t < 32 → length (put t 12 v) < 32
 unfolding put
 short-put t v e h = simp length-append (rw (e, length-drop 14 t) (omega (arith, take-most 12 t, h)))
 
+-- ---- what `fill_good` shows
+
+-- what a fill leaves, by whether the filled octets are a sound table
 kept : (t : List ℕ) → true ≡ sound (filled t) → filled t ≡ fills t
 unfolding fills
 kept t e = rw (← e) refl
@@ -93,9 +95,6 @@ unfolding goodCount decodeTable
 good-small t b l = omega (arith, count-le (λ k. isGood (slot (decodeTable t) k)) (slots (decodeTable t)), fit-header t b l .shape .geometry .slots)
 
 module _ (t : List ℕ) (b : Bytes t) (l : 32 ≤ length t) where
-  abbrev here : Header
-  here = decodeTable t .header
-
   abbrev good : ℕ
   good = goodCount (decodeTable t)
 
