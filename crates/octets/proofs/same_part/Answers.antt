@@ -1,0 +1,9 @@
+use mathlib.Core.Path.{◌≡◌}
+use Prim.Native.Nat.{◌+◌, ◌-◌}
+use native.Mathlib.Omega.{arith}
+use Rattle.octets.specs.Octets.{part}
+use Rattle.octets.proofs.same_part.Goals as goal
+
+pub returns : goal.returns
+unfolding part
+returns c = let a = c.args in let e : a.at + a.n - a.at ≡ a.n = omega arith in let f : a.from + a.n - a.from ≡ a.n = omega arith in rw (e, f) at c.is_same.ensures
