@@ -7,4 +7,3 @@ pub mod Shapes
 pub mod Trailing
 pub mod RoundTrip
 pub mod Wrote
-pub mod Calls

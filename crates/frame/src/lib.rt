@@ -1,4 +1,6 @@
 // Authentication frame bodies: the reader, the parts of a body that was read, and the writers.
+#![tactic(auto)]
+
 ghost use Rattle.std.specs.Prelude.{◌≡◌, ◌+◌, ◌-◌, ◌≤◌, length, drop};
 ghost use Rattle.octets.specs.Octets.{part, put, num};
 ghost use Rattle.frame.specs.Frame.{read_body, read_commit, read_offer, read_listed, read_token_request, read_group_refusal, read_confirm, whole_elements, elements_of, token_of, commit_of, body, head, field_at, head_of};
@@ -33,7 +35,7 @@ const CONFIRM: usize = 40;
 const ELEMENT: usize = 2;
 
 // What a body is, with the numbers in it and the length of its token.
-#[derive(Drop)]
+#[derive(Clone, Copy)]
 pub enum Body {
     // Status 0 in a listed group: the token stands at 8, scalar and element after it.
     Commit { group: u16, token: usize },
@@ -54,7 +56,7 @@ pub enum Body {
 }
 
 // What a writer answers: the length written; refusal 7, outside the shapes; refusal 11, longer than the buffer.
-#[derive(Drop)]
+#[derive(Clone, Copy)]
 pub enum Written {
     Length(usize),
     Shape,
@@ -62,21 +64,21 @@ pub enum Written {
 }
 
 // "A frame reader carries the received octets and the offset reached."
-#[derive(Drop)]
+#[derive(Clone, Copy)]
 pub struct Reader<'a> {
     pub frame: &'a [u8],
     pub at: usize,
 }
 
 // A field of two octets, and the offset reached behind it.
-#[derive(Drop)]
+#[derive(Clone, Copy)]
 pub struct Field {
     pub number: u16,
     pub reached: usize,
 }
 
 // The three numbers that every body starts with, and the offset reached behind them.
-#[derive(Drop)]
+#[derive(Clone, Copy)]
 pub struct Head {
     pub algorithm: u16,
     pub sequence: u16,
