@@ -1,4 +1,6 @@
 // The form of a record, tested where its octets lie.
+#![tactic(auto)]
+
 ghost use Rattle.std.specs.Prelude.{◌≡◌, ◌&&◌, ◌+◌, ◌≤◌, length, drop};
 ghost use Rattle.octets.specs.Octets.{part, all_zero};
 ghost use Rattle.groups.specs.Groups.{width, listed};

@@ -1,4 +1,6 @@
 // The form of a header, tested in place; the form of a record is tested in `record_soundness`.
+#![tactic(auto)]
+
 ghost use Rattle.std.specs.Prelude.{◌≡◌, ◌≤◌};
 ghost use Rattle.record.specs.Layout.{form_of};
 ghost use Rattle.soundness.specs.Soundness.{own_ok, usable, groups_ok, period_ok, limit_ok, settings_ok, geometry_ok, header_ok, bounds_ok};

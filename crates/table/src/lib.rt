@@ -1,4 +1,6 @@
 // The lent table: its form, its searches, and the counts after a record changed.
+#![tactic(auto)]
+
 ghost use Rattle.std.specs.Prelude.{◌≡◌, true, ◌&&◌, ℕ, ◌+◌, ◌≤◌, ◌<◌, eqb, length, get_or};
 ghost use Rattle.octets.specs.Octets.{num};
 ghost use Rattle.octets.specs.Scan.{all_below, count_below, first_below, last_below, bit};
@@ -12,7 +14,7 @@ use record::{ADDRESS, Counts, FINISHED, HEADER, Header, RUN, STATE, USED};
 const FEW: usize = 8;
 
 // What every call about an address begins with.
-#[derive(Drop)]
+#[derive(Clone, Copy)]
 pub enum Entry {
     Unsound,
     Unusable,
@@ -21,14 +23,14 @@ pub enum Entry {
 }
 
 // What a look at the whole table finds: whether it is sound, and its header.
-#[derive(Drop)]
+#[derive(Clone, Copy)]
 pub struct Checked {
     pub sound: bool,
     pub header: Header,
 }
 
 // What an address comes to, and the table's header.
-#[derive(Drop)]
+#[derive(Clone, Copy)]
 pub struct Entrance {
     pub entry: Entry,
     pub header: Header,
@@ -402,7 +404,7 @@ pub fn enter(t: &[u8], a: [u8; 6]) -> Entrance
 // ---- a record changed where it lies
 
 // What a record adds to the counts.
-#[derive(Drop)]
+#[derive(Clone, Copy)]
 pub struct Standing {
     pub used: bool,
     pub opened: bool,

@@ -1,0 +1,16 @@
+use Rattle.table.proofs.Laws.{reach}
+use native.Mathlib.Omega.{arith}
+use Prim.Native.Nat.{◌≤◌, ◌-◌}
+use mathlib.Core.Path.{◌≡◌, sym}
+use Rattle.octets.specs.Scan.{count_below}
+use Rattle.octets.proofs.Scan.{count_none, count-step, count_fits, count-through, count-le}
+use Rattle.table.specs.Table.{decode_table, slot, in_use, is_open, is_good}
+use borrow.Author.Rules.{rules}
+use Rattle.table.proofs.counts_below.Given as goal
+
+abbrev pub invariant-loop-i : goal.invariant-loop-i
+invariant-loop-i l = (l.i ≤ l.n)
+    × ((l.used ≡ count_below (λ k. in_use (slot (decode_table l.t) k)) l.i) × ((l.opened ≡ count_below (λ k. is_open (slot (decode_table l.t) k)) l.i) × (l.good ≡ count_below (λ k. is_good (slot (decode_table l.t) k)) l.i)))
+
+abbrev pub decreases-loop-i : goal.decreases-loop-i
+decreases-loop-i l = l.n - l.i

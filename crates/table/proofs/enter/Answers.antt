@@ -1,0 +1,15 @@
+use mathlib.Core.Path.{refl}
+use Rattle.table.proofs.Laws.{sound-long, sound-by, looked-whole, entered-unsound}
+use borrow.Author.Rules.{rules}
+use Rattle.std.proofs.Common.{ap}
+use Rattle.std.specs.Prelude.{not}
+use Rattle.table.proofs.enter.Goals as goal
+
+pub returns-then-not-is_sound : goal.returns-then-not-is_sound
+returns-then-not-is_sound c = entered-unsound _ _ _ _ refl c.is_sound.ensures (ap not c.if-not-is_sound.true)
+
+pub header_of-h-requires : goal.header_of-h-requires
+header_of-h-requires c = sound-long _ (sound-by _ _ c.is_sound.ensures (ap not c.if-not-is_sound.false))
+
+pub entry_of-entry-requires : goal.entry_of-entry-requires
+entry_of-entry-requires c = looked-whole _ _ _ c.is_sound.ensures (ap not c.if-not-is_sound.false) c.header_of-h.ensures

@@ -1,0 +1,7 @@
+use Rattle.table.specs.Table.{decode_table}
+use borrow.Author.Rules.{rules}
+use Rattle.table.proofs.header_of.Goals as goal
+
+pub returns : goal.returns
+unfolding decode_table
+returns c = c.load_header.ensures

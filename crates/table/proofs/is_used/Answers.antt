@@ -1,0 +1,5 @@
+use borrow.Author.Rules.{rules}
+use Rattle.table.proofs.is_used.Goals as goal
+
+pub returns : goal.returns
+returns c = cc

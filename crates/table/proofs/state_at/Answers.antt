@@ -1,0 +1,6 @@
+use Rattle.table.proofs.Octets.{state-at-law}
+use borrow.Author.Rules.{rules}
+use Rattle.table.proofs.state_at.Goals as goal
+
+pub returns : goal.returns
+returns c = let k = c in state-at-law k.args.t.now k.args.w k.args.k _ k.requires c.record_at-a.ensures _ c.get8.ensures
