@@ -1,4 +1,6 @@
 // How many good links: the count filled in, and which headers a sound table can have.
+#![tactic(auto)]
+
 ghost use Rattle.std.specs.Prelude.{◌≡◌};
 ghost use Rattle.table.specs.Table.{sound};
 ghost use Rattle.good_links.specs.GoodLinks.{header_possible, countable, filled, fills};

@@ -1,4 +1,6 @@
 // The table that set up makes.
+#![tactic(auto)]
+
 ghost use Rattle.std.specs.Prelude.{◌≡◌, ◌++◌, ◌-◌, ◌≤◌, length, replicate};
 ghost use Rattle.record.specs.Layout.{encode_header};
 ghost use Rattle.initial.specs.Initial.{made, slots_for, length_ok, initial_header, initial_ok, initial};
