@@ -1,5 +1,7 @@
 // What the acts of the rule book share, in a record's own octets: the scope's own words "Repeat", "Give up" and "Form", how a run becomes a link, and
 // how a link ends. "Drop" changes nothing there.
+#![tactic(auto)]
+
 ghost use Rattle.std.specs.Prelude.{◌≡◌, ◌+◌, ◌≤◌, length};
 ghost use Rattle.groups.specs.Groups.{width, stored, Storable};
 ghost use Rattle.record.specs.Layout.{decode_run, decode_link, decode_peer, run_size, link_size, record_size};

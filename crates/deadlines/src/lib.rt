@@ -1,4 +1,6 @@
 // The clock, "a 32-bit count of milliseconds that wraps": deadlines by wrapping add, the due test by wrapping subtract.
+#![tactic(auto)]
+
 ghost use Rattle.std.specs.Prelude.{◌≡◌, ◌+◌, ◌≤◌, length};
 ghost use Rattle.groups.specs.Groups.{width};
 ghost use Rattle.record.specs.Layout.{decode_peer, record_size};

@@ -1,4 +1,6 @@
 // The ladders of the rule book: what a frame calls for. Only reads, and nothing is compared before it is asked.
+#![tactic(auto)]
+
 ghost use Rattle.std.specs.Prelude.{◌≡◌, ◌&&◌, not, ◌≤◌, eqb, length, take};
 ghost use Rattle.octets.specs.Octets.{part, same};
 ghost use Rattle.octets.specs.Scan.{if◌then◌else◌};

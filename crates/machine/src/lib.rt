@@ -1,4 +1,6 @@
 // The rules: perform what the ladder says, in a record's own octets.
+#![tactic(auto)]
+
 ghost use Rattle.std.specs.Prelude.{[]};
 ghost use Rattle.groups.specs.Groups.{fresh_of};
 ghost use Rattle.record.specs.Layout.{decode_peer};

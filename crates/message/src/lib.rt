@@ -1,4 +1,6 @@
 // What the rules see of a frame: one view of its body, made when the body is read, and the message that it gives.
+#![tactic(auto)]
+
 ghost use Rattle.std.specs.Prelude.{◌≡◌, ◌≤◌, length};
 ghost use Rattle.groups.specs.Groups.{width, stored};
 ghost use Rattle.message.specs.View.{commit_view, confirm_view, view_of, view, stored_token, message_of};
@@ -7,7 +9,7 @@ use frame::Body;
 
 // A body by its numbers: sequence (1 Commit, 2 Confirm, 0 not of the shapes), status, group, counter, whether the group is supported, and the
 // length of its token. What a body of its kind does not have is zero.
-#[derive(Drop)]
+#[derive(Clone, Copy)]
 pub struct View {
     pub sequence: u16,
     pub status: u16,

@@ -1,4 +1,6 @@
 // The acts of the rule book by their names, in a record's own octets: what only one act does, and `perform`, which does the one that is named.
+#![tactic(auto)]
+
 ghost use Rattle.std.specs.Prelude.{◌≡◌, ◌+◌, ◌≤◌, ◌<◌, length, get_or};
 ghost use Rattle.groups.specs.Groups.{width, stored, Storable, fresh_of, fresh_at, fresh_for};
 ghost use Rattle.record.specs.Layout.{decode_run, decode_link, decode_peer, run_size, link_size, record_size};

@@ -1,6 +1,8 @@
 // What the rules speak of, as types: what a call gives, the acts by name, and what is said. The rules themselves are definitions (specs/Book).
+#![tactic(auto)]
+
 // The clock's reading, and with it what a table says of times: the first period, and the Sync limit.
-#[derive(Drop)]
+#[derive(Clone, Copy)]
 pub struct Clock {
     pub time: u32,
     pub period: u16,
@@ -9,7 +11,7 @@ pub struct Clock {
 
 // What a call gives a rule beside the groups and the fresh commits. Of the table: our own address, whether Open is at or above the threshold, whether
 // the peer has no record and no slot is free for one. Of the call: the peer's address, the clock, the expected token and the verdict.
-#[derive(Drop)]
+#[derive(Clone, Copy)]
 pub struct Given {
     pub own: [u8; 6],
     pub crowded: bool,
@@ -21,7 +23,7 @@ pub struct Given {
 }
 
 // What a rule may do.
-#[derive(Drop)]
+#[derive(Clone, Copy)]
 pub enum Act {
     Drop,
     RefuseGroup,
@@ -44,7 +46,7 @@ pub enum Act {
 }
 
 // What the host is told of a step.
-#[derive(Drop)]
+#[derive(Clone, Copy)]
 pub enum Event {
     None,
     Accepted,
@@ -53,7 +55,7 @@ pub enum Event {
 }
 
 // A frame to send.
-#[derive(Drop)]
+#[derive(Clone, Copy)]
 pub struct Frame {
     pub sequence: u16,
     pub status: u16,
@@ -62,7 +64,7 @@ pub struct Frame {
 }
 
 // The frames to send, in order.
-#[derive(Drop)]
+#[derive(Clone, Copy)]
 pub enum Frames {
     None,
     One(Frame),
@@ -71,7 +73,7 @@ pub enum Frames {
 
 // What an act says beside the record that it leaves: the event, the frames, the group of the commit used afresh or 0, and whether it is refused
 // for want of a slot.
-#[derive(Drop)]
+#[derive(Clone, Copy)]
 pub struct Said {
     pub event: Event,
     pub frames: Frames,

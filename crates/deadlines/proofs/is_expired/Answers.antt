@@ -1,0 +1,7 @@
+use Rattle.std.proofs.Common.{refl, rules}
+use Rattle.rules.specs.Book.{expired, t1_due}
+use Rattle.deadlines.proofs.is_expired.Goals as goal
+
+pub returns : goal.returns
+unfolding expired t1_due
+returns c = rw (c.is_due-late.ensures, c.t1_of-at.ensures, c.finished_of-finished.ensures, c.t0_due-early.ensures) refl

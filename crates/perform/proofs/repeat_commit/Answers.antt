@@ -1,0 +1,10 @@
+use Rattle.perform.proofs.Repeats.{repeat-commit-law}
+use borrow.Author.Rules.{rules}
+use Rattle.perform.proofs.repeat_commit.Goals as goal
+
+pub returns : goal.returns
+returns c = let d = c in
+    let e = d in
+    let f = e in
+    let g = f in
+    repeat-commit-law _ _ _ _ _ _ _ _ g.group_of-group.ensures f.sc_of-sc.ensures e.commit_frame-commit.ensures d.retransmit.ensures
