@@ -1,4 +1,6 @@
 // What calls answer: the numbered refusals, the answer, where a record is worked on, and the end of every call.
+#![tactic(auto)]
+
 ghost use Rattle.std.specs.Prelude.{◌≡◌};
 ghost use Rattle.table.specs.Table.{decode_table, encode_table, recounted, Changed, Sized};
 ghost use Rattle.answers.specs.Answers.{number, returned, refused, none_due, answered, quiet, seating};
@@ -9,7 +11,7 @@ use rules::{Event, Frames, Said};
 use table::Standing;
 
 // The causes of a refusal: those of the scope in the order of their numbers, then those of a move, which tests a target's length last.
-#[derive(Drop)]
+#[derive(Clone, Copy)]
 pub enum Refusal {
     Settings,
     Unsound,
@@ -28,7 +30,7 @@ pub enum Refusal {
 }
 
 // How a call came out.
-#[derive(Drop)]
+#[derive(Clone, Copy)]
 pub enum Outcome {
     Done,
     NoneDue,
@@ -36,7 +38,7 @@ pub enum Outcome {
 }
 
 // What a call answers.
-#[derive(Drop)]
+#[derive(Clone, Copy)]
 pub struct Answer {
     pub outcome: Outcome,
     pub event: Event,
@@ -46,7 +48,7 @@ pub struct Answer {
 }
 
 // Whether a call may go on, and with which slot.
-#[derive(Drop)]
+#[derive(Clone, Copy)]
 pub enum Turn {
     Refused(Refusal),
     Go(Found),

@@ -1,5 +1,7 @@
 // The calls: set up, start, kill, frame received and clock. Each takes lent slices of any content and length. The table's header and the
 // view of a frame's body are handed on: no function loads or reads them again.
+#![tactic(auto)]
+
 ghost use Rattle.std.specs.Prelude.{◌≡◌, [], length, true};
 ghost use Rattle.octets.specs.Scan.{first_below};
 ghost use Rattle.octets.specs.declared.Found.TheVariants.{At};
@@ -226,7 +228,7 @@ pub fn kill(t: &mut [u8], address: [u8; 6]) -> Answer
 // ---- Frame received
 
 // Whether a frame goes on, and the view of its body if so.
-#[derive(Drop)]
+#[derive(Clone, Copy)]
 pub struct Admitted {
     pub turn: Turn,
     pub view: View,

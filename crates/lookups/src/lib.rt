@@ -1,4 +1,6 @@
 // The lookups: what a host asks of a table that stays as it is: how long until the next deadline, where a record lies, and how many good links.
+#![tactic(auto)]
+
 ghost use Rattle.std.specs.Prelude.{◌≡◌, ◌≤◌, length};
 ghost use Rattle.groups.specs.Groups.{width};
 ghost use Rattle.record.specs.Layout.{decode_peer, record_size};
@@ -13,7 +15,7 @@ use table::Entry;
 const NO_DEADLINE: u32 = 4294967295;
 
 // What a lookup answers: the number asked for, or a refusal.
-#[derive(Drop)]
+#[derive(Clone, Copy)]
 pub enum Asked {
     Number(u32),
     Refused(Refusal),

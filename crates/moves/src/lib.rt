@@ -1,4 +1,6 @@
 // Moves between the forms of the table: the same contents, with records of the other size, in another buffer. The source is only read.
+#![tactic(auto)]
+
 ghost use Rattle.std.specs.Prelude.{◌≡◌, ◌++◌, ◌+◌, ◌≤◌, ltb, length, take, replicate};
 ghost use Rattle.octets.specs.Octets.{part, put};
 ghost use Rattle.groups.specs.Groups.{width, stored, listed};
@@ -13,7 +15,7 @@ use record::{Form, Geometry, HEADER, Header, LINK_OWN, RUN, RUN_OWN, TOKEN};
 const WIDE_GROUP: u16 = 21;
 
 // Which way a table is moved: to the form with records of 1,080 octets, or back to that of 864.
-#[derive(Drop)]
+#[derive(Clone, Copy)]
 pub enum Direction {
     Forward,
     Back,

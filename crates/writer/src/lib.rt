@@ -1,4 +1,6 @@
 // The writer: a frame from its parts, or from a peer's record, into a lent buffer.
+#![tactic(auto)]
+
 ghost use Rattle.std.specs.Prelude.{◌≡◌, ◌≤◌, length};
 ghost use Rattle.frame.specs.Writing.{Writes};
 ghost use Rattle.groups.specs.Groups.{width};
@@ -10,7 +12,7 @@ use frame::Written;
 use table::Entry;
 
 // What a writer answers: the length written, or a refusal.
-#[derive(Drop)]
+#[derive(Clone, Copy)]
 pub enum Wrote {
     Length(usize),
     Refused(Refusal),

@@ -1,0 +1,49 @@
+use native.Mathlib.Omega.{arith}
+use mathlib.Core.Path.{sym, ◌∙◌}
+use Rattle.message.specs.View.{message_of}
+use Rattle.calls.specs.Calls.{fresh_in}
+use Rattle.engine.proofs.Headers.{held-sized, held_at, held-reached}
+use Rattle.engine.proofs.Windows.{slot-changed}
+use Rattle.engine.proofs.Starts.{slotless-clocked}
+use Rattle.engine.proofs.Frames.{hear-seated, hear-unseated}
+use borrow.Author.Rules.{rules}
+use Rattle.engine.proofs.hear.Goals as goal
+
+pub seat_of-requires : goal.seat_of-requires
+seat_of-requires c = let k = c in held-sized _ k.args.h _ k.requires.0 _ c.width_of-w.ensures
+
+pub standing_of-was-requires : goal.standing_of-was-requires
+standing_of-was-requires c = let k = c in
+    held-reached _ k.args.h _ (held_at _ k.args.h _ _ k.requires.0
+    (sym c.seat_of.ensures ∙ c.in-At.is)) _
+    c.width_of-w.ensures
+
+pub frame_at-said-requires : goal.frame_at-said-requires
+frame_at-said-requires c = let k = c in
+    (held_at _ k.args.h _ _ k.requires.0 (sym c.seat_of.ensures ∙ c.in-At.is), (k.requires.1.0, (k.requires.1.1.0.clock, k.requires.1.1.1)))
+
+pub finish_at-requires : goal.finish_at-requires
+finish_at-requires c = let k = c in
+    slot-changed _ k.args.h _ (held_at _ k.args.h _ _ k.requires.0
+    (sym c.seat_of.ensures ∙ c.in-At.is)) _ _ _ _
+    (search rules) c.frame_at-said.ensures c.standing_of-was.ensures
+
+pub hear_outside-requires : goal.hear_outside-requires
+hear_outside-requires c = let k = c in
+    (k.requires.1.0, (slotless-clocked k.args.h k.args.g _ k.requires.1.1.0 c.without_slot-slotless.ensures, k.requires.1.1.1))
+
+pub returns-in-At : goal.returns-in-At
+returns-in-At c = let k = c in
+    hear-seated k.args.t.now k.args.h k.args.f k.requires.0 k.args.g k.requires.1.1.0 (message_of k.args.body.now k.args.v)
+    (fresh_in k.args.h k.args.fresh.now)
+    _ _ _ _ _ _ (λ i. search rules)
+    c.seat_of.ensures
+    c.in-At.is
+    c.frame_at-said.ensures c.finish_at.ensures
+
+pub returns-in-Nothing : goal.returns-in-Nothing
+returns-in-Nothing c = let k = c in
+    hear-unseated k.args.t.now k.args.h k.args.f k.requires.0 k.args.g k.requires.1.1.0 (message_of k.args.body.now k.args.v)
+    (fresh_in k.args.h k.args.fresh.now)
+    _ _ _ (λ i. search rules)
+    c.seat_of.ensures c.in-Nothing.is c.without_slot-slotless.ensures c.hear_outside.ensures

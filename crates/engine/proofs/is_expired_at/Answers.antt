@@ -1,0 +1,13 @@
+use mathlib.Core.Path.{ap, ◌∙◌}
+use Rattle.record.specs.declared.Peer.{Peer}
+use Rattle.table.proofs.Octets.{window-law}
+use Rattle.rules.specs.Book.{expired}
+use borrow.Author.Rules.{rules}
+use Rattle.engine.proofs.is_expired_at.Goals as goal
+
+pub returns : goal.returns
+returns c = let s = c in
+    c.is_expired.ensures
+    ∙ ap (λ (p : Peer). expired p s.args.time)
+    (window-law s.args.t.now s.args.w s.args.k _ s.requires c.record_at-a.ensures _
+    c.record_size.ensures)

@@ -1,0 +1,6 @@
+use Rattle.moves.proofs.Records.{clear-law}
+use borrow.Author.Rules.{rules}
+use Rattle.moves.proofs.clear_part.Goals as goal
+
+pub returns : goal.returns
+returns c = let k = c in clear-law k.args.t.now _ k.args.at k.args.n k.requires c.clear.ensures
