@@ -422,6 +422,8 @@ pub further-alike : (t u : List ℕ) (cs ds : List Further) → SameContents t u
     → AllHandedOver cs → AllHandedOver ds → AnsweredAlike t u cs ds
 unfolding after_all replies
 further-alike t u [] [] S both_end none none = record { replies = refl; left = S }
+further-alike t u [] (d ∷ ds) S p _ _ = elim p [ ]
+further-alike t u (c ∷ cs) [] S p _ _ = elim p [ ]
 further-alike t u (c ∷ cs) (d ∷ ds) S (both-more P Ps) (more h hs) (more k ks) =
     let A = further-alike t u cs ds S Ps hs ks in
     let Q = partner-stays t u (after_all t cs) (after_all u ds) c d (after-all-stays t cs S.bytes₁ S.sound₁ hs) (after-all-stays u ds S.bytes₂ S.sound₂ ks) P in

@@ -136,12 +136,14 @@ pub data Below : ℕ → List Entry → Type 0 where
   uses : {n : ℕ} {e : Entry} {h : List Entry} (m : ℕ) → m < n → ((f : Commit) → Uses f h e → first_octet f ≡ m) → Below m h → Below n (e ∷ h)
 
 below-use : {n : ℕ} {d : Entry} {before h : List Entry} (f : Commit) → Below n h → Comes d before h → Uses f before d → first_octet f < n
+below-use f nobody c u = elim c [ ]
 below-use f (skips none_of b) last u = absurd (none_of f u)
 below-use f (skips none_of b) (sooner c) u = below-use f b c u
 below-use f (uses m l o b) last u = let z = o f u in omega arith
 below-use f (uses m l o b) (sooner c) u = let w = below-use f b c u in omega arith
 
 below-once : {n : ℕ} {e d : Entry} {before back h : List Entry} (f : Commit) → Below n h → Comes e before h → Comes d back before → Uses f before e → ¬ Uses f back d
+below-once f nobody k c u v = elim k [ ]
 below-once f (skips none_of b) last c u v = none_of f u
 below-once f (skips none_of b) (sooner k) c u v = below-once f b k c u v
 below-once f (uses m l o b) last c u v =
@@ -225,6 +227,7 @@ pub data Every : List Entry → Type 0 where
   and : {e : Entry} {h : List Entry} → Keeps e h → Every h → Every (e ∷ h)
 
 every-comes : {e : Entry} {before h : List Entry} → Every h → Comes e before h → Keeps e before
+every-comes end c = elim c [ ]
 every-comes (and p r) last = p
 every-comes (and p r) (sooner c) = every-comes r c
 
@@ -245,6 +248,7 @@ pub data Sets (limits : Side → ℕ) : List Entry → Type 0 where
   hears : {X : Side} {octets stock : List ℕ} {v : ℕ} {h : List Entry} → Sets limits h → Sets limits (gets X octets stock v ∷ h)
 
 pub sets-to : {limits : Side → ℕ} {h : List Entry} → Sets limits h → (X : Side) → SetTo (limits X) X h
+sets-to nothing X e before size b o s c d z q = elim c [ ]
 sets-to {limits} (sets P l r) X e before size b o s last d z q =
     let j : settings P ≡ s = cc in subst (λ (x : List ℕ). limit_of (settings_of x).limit ≡ limits X) j (l ∙ ap limits z)
 sets-to (sets P l r) X e before size b o s (sooner c) d z q = sets-to r X e before size b o s c d z q
