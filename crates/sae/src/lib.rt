@@ -1,5 +1,7 @@
 // The C interface: what firmware links. Thin over engine, table, good_links, writer, lookups, moves, message and frame. Every function returns 0 or the number of a refusal, and on a
 // refusal leaves every lent octet, the answer and the number asked for too.
+#![tactic(auto)]
+
 ghost use Rattle.std.specs.Prelude.{◌≡◌, ◌≤◌, length};
 ghost use Rattle.record.specs.SettingsOctets.{settings_of, reserved_zero};
 ghost use Rattle.initial.specs.Initial.{made};

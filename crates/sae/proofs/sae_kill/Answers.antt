@@ -1,0 +1,7 @@
+-- `sae::sae_kill` meets its contract: each return by its law of Laws.
+use Rattle.sae.proofs.Laws.{replied}
+use borrow.Author.Rules.{rules}
+use Rattle.sae.proofs.sae_kill.Goals as goal
+
+pub returns : goal.returns
+returns c = replied c.kill-a.result _ _ _ _ _ c.kill-a.ensures c.reply.ensures.0 c.reply.ensures.1
