@@ -10,6 +10,8 @@
 //   silent      the clock at every millisecond from 0 on: the readings at which it served, until the run is given up
 // Reader and writer of `has` and `again` are the C functions over the table that stands. A line that begins with # is written again; any other
 // line is left out. Calls write the number returned, event, stock group used, frames.
+#![tactic(auto)]
+
 ghost use Rattle.std.specs.Prelude.{◌<◌, ◌≤◌, length};
 
 use answers::Answer;
@@ -27,7 +29,7 @@ const TABLE: usize = 1112;
 
 // What the reader hands back of a body: its numbers, where its token or what stands behind a Confirm begins and how long it is, and where scalar
 // or value stands.
-#[derive(Drop)]
+#[derive(Clone, Copy)]
 struct Parts {
     sequence: u16,
     status: u16,
