@@ -19,7 +19,6 @@ use Rattle.record.proofs.Laws.{shape-peer}
 use Rattle.soundness.proofs.Laws.{peer-unused, peer-in-use}
 use Rattle.rules.specs.Book.{Step}
 use Rattle.table.specs.Table.{Table, sound, encode_table, decode_table, placed, recounted, with_peer, slot, slots, in_use, belongs, look, look_by, finds}
-use Rattle.table.specs.declared.Entry.TheVariants.{At}
 use Rattle.table.proofs.Laws.{entry_absent, sound-whole, peers-held}
 use Rattle.table.proofs.Fit.{bytes-placed}
 use Rattle.table.proofs.Kept.{good-storable, placed_same, placed-other}

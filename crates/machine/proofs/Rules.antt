@@ -15,7 +15,7 @@ use Rattle.rules.specs.declared.Given.{Given}
 use Rattle.rules.specs.declared.Act.{Act}
 use Rattle.rules.specs.declared.Act.TheVariants as act
 use Rattle.rules.specs.declared.Said.{Said}
-use Rattle.rules.specs.Book.{◌is◌, holds, Terms, Call, silence, t0_due, frame_act, clock_act, start_act, refusing, ending_link, starting, repeating_commit, confirming_again, perform, on_frame, on_clock, on_start}
+use Rattle.rules.specs.Book.{holds, Terms, Call, silence, t0_due, frame_act, clock_act, start_act, refusing, ending_link, starting, repeating_commit, confirming_again, perform, on_frame, on_clock, on_start}
 use Rattle.rules.specs.Given.{terms, call, Able}
 use Rattle.rules.specs.Said.{Does, saying_refused}
 use Rattle.rules.proofs.Branches.{holds-true, holds-false, answered-true, answered-false}

@@ -16,7 +16,7 @@ use Rattle.record.specs.declared.Peer.{Peer}
 use Rattle.record.specs.declared.Header.{Header}
 use Rattle.record.specs.Layout.{width_in, record_size, record_at, encode_peer, decode_peer, encode_header, no_peer}
 use Rattle.record.proofs.Laws.{shape-peer, fit-peer, length-peer, length-six, record-below}
-use Rattle.table.specs.Table.{width_of, decode_table, encode_table, octets_of, slots, slot, sound}
+use Rattle.table.specs.Table.{width_of, decode_table, encode_table, octets_of, slots, slot}
 use Rattle.table.proofs.Octets.{Fits, none, more, next, window-law, window-length}
 use Rattle.table.proofs.Laws.{sound-whole, peers-held, reach, width-told}
 use Rattle.table.proofs.Fit.{fit-decoded}

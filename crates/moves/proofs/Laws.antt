@@ -11,7 +11,7 @@ use borrow.Author.Tests.{eqb-true, eq-eqb, le-leb, le-ltb, ltb-false}
 use Rattle.octets.specs.Octets.{Bytes}
 use Rattle.octets.specs.Scan.{if◌then◌else◌}
 use Rattle.octets.proofs.Scan.{clash, and_left, and_right, and_both}
-use Rattle.groups.specs.Groups.{width, known, commit_length, listable, listed}
+use Rattle.groups.specs.Groups.{known, commit_length, listable, listed}
 use Rattle.groups.proofs.Laws.{listable-known, listable-room, listable-narrow, listable-wide}
 use Rattle.record.specs.declared.Form.{Form}
 use Rattle.record.specs.declared.Peer.{Peer}

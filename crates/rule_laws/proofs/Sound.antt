@@ -9,7 +9,7 @@ use lib.ListN.{length, length-replicate}
 use Rattle.octets.specs.Scan.{if◌then◌else◌}
 use Rattle.octets.proofs.Scan.{clash}
 use Rattle.octets.proofs.Tests.{zero-zeros}
-use Rattle.groups.specs.Groups.{width, listed}
+use Rattle.groups.specs.Groups.{width}
 use Rattle.groups.proofs.Laws.{bytes-zeros}
 use Rattle.record.specs.declared.Peer.{Peer}
 use Rattle.soundness.proofs.Laws.{run-states, run-is-committed, link-is-finished}

@@ -188,8 +188,7 @@ fn initialize_from(t: &mut [u8], own: [u8; 6], s: [u8; 16]) -> Answer
 }
 
 // Set up.
-#[unsafe(no_mangle)]
-pub extern "C" fn sae_initialize(
+pub fn sae_initialize(
     t: &mut [u8],
     own: &[u8; 6],
     settings: &[u8; 16],
@@ -202,8 +201,7 @@ pub extern "C" fn sae_initialize(
 }
 
 // Start.
-#[unsafe(no_mangle)]
-pub extern "C" fn sae_initiate(
+pub fn sae_initiate(
     t: &mut [u8],
     address: &[u8; 6],
     time: u32,
@@ -217,8 +215,7 @@ pub extern "C" fn sae_initiate(
 }
 
 // Kill.
-#[unsafe(no_mangle)]
-pub extern "C" fn sae_kill(t: &mut [u8], address: &[u8; 6], answer: &mut [u8; 28]) -> u32
+pub fn sae_kill(t: &mut [u8], address: &[u8; 6], answer: &mut [u8; 28]) -> u32
     ensures { Returns result t.new answer.new answer.old (kills t.old address.now) }
 {
     let a = engine::kill(t, *address);
@@ -226,8 +223,7 @@ pub extern "C" fn sae_kill(t: &mut [u8], address: &[u8; 6], answer: &mut [u8; 28
 }
 
 // Frame received.
-#[unsafe(no_mangle)]
-pub extern "C" fn sae_receive(
+pub fn sae_receive(
     t: &mut [u8],
     address: &[u8; 6],
     time: u32,
@@ -244,8 +240,7 @@ pub extern "C" fn sae_receive(
 }
 
 // Clock.
-#[unsafe(no_mangle)]
-pub extern "C" fn sae_expire(t: &mut [u8], time: u32, answer: &mut [u8; 28]) -> u32
+pub fn sae_expire(t: &mut [u8], time: u32, answer: &mut [u8; 28]) -> u32
     ensures { Returns result t.new answer.new answer.old (expires t.old time) }
 {
     let a = engine::expire(t, time);
@@ -267,8 +262,7 @@ fn wrote_reply(w: Wrote, written: &mut u32) -> u32
 }
 
 // Write a frame from its parts.
-#[unsafe(no_mangle)]
-pub extern "C" fn sae_write_parts(
+pub fn sae_write_parts(
     t: &[u8],
     sequence: u16,
     status: u16,
@@ -286,8 +280,7 @@ pub extern "C" fn sae_write_parts(
 }
 
 // Write a frame of a record.
-#[unsafe(no_mangle)]
-pub extern "C" fn sae_write_record(
+pub fn sae_write_record(
     t: &[u8],
     address: &[u8; 6],
     sequence: u16,
@@ -374,8 +367,7 @@ fn parts_octets(v: View, body: &[u8]) -> [u8; 20]
 }
 
 // Read a frame's parts. Causes 2 and 7.
-#[unsafe(no_mangle)]
-pub extern "C" fn sae_read(t: &[u8], body: &[u8], parts: &mut [u8; 20]) -> u32
+pub fn sae_read(t: &[u8], body: &[u8], parts: &mut [u8; 20]) -> u32
     ensures { Reads result parts.new parts.old t.now body.now }
 {
     let c = table::check(t);
@@ -408,8 +400,7 @@ fn asked_reply(a: Asked, number: &mut u32) -> u32
 }
 
 // How long until the next deadline.
-#[unsafe(no_mangle)]
-pub extern "C" fn sae_next_deadline(t: &[u8], time: u32, milliseconds: &mut u32) -> u32
+pub fn sae_next_deadline(t: &[u8], time: u32, milliseconds: &mut u32) -> u32
     ensures { Asks result milliseconds.new milliseconds.old (asks_deadline t.now time) }
 {
     let a = lookups::next_deadline(t, time);
@@ -417,8 +408,7 @@ pub extern "C" fn sae_next_deadline(t: &[u8], time: u32, milliseconds: &mut u32)
 }
 
 // Where the record of an address lies.
-#[unsafe(no_mangle)]
-pub extern "C" fn sae_find(t: &[u8], address: &[u8; 6], offset: &mut u32) -> u32
+pub fn sae_find(t: &[u8], address: &[u8; 6], offset: &mut u32) -> u32
     ensures { Asks result offset.new offset.old (asks_offset t.now address.now) }
 {
     let a = lookups::find(t, *address);
@@ -426,8 +416,7 @@ pub extern "C" fn sae_find(t: &[u8], address: &[u8; 6], offset: &mut u32) -> u32
 }
 
 // How many good links, from the 32 octets of a header alone.
-#[unsafe(no_mangle)]
-pub extern "C" fn sae_good_links(header: &[u8], good: &mut u32) -> u32
+pub fn sae_good_links(header: &[u8], good: &mut u32) -> u32
     ensures { Asks result good.new good.old (asks_good header.now) }
 {
     let a = lookups::good_links(header);
@@ -435,8 +424,7 @@ pub extern "C" fn sae_good_links(header: &[u8], good: &mut u32) -> u32
 }
 
 // Fill the number of good links into a table otherwise sound.
-#[unsafe(no_mangle)]
-pub extern "C" fn sae_fill(t: &mut [u8]) -> u32
+pub fn sae_fill(t: &mut [u8]) -> u32
     ensures { Fills result t.new t.old }
 {
     if good_links::fill_good(t) {
@@ -446,8 +434,7 @@ pub extern "C" fn sae_fill(t: &mut [u8]) -> u32
 }
 
 // Move a table of the form with records of 864 octets to that of 1,080, into a target lent beside it.
-#[unsafe(no_mangle)]
-pub extern "C" fn sae_widen(source: &[u8], target: &mut [u8]) -> u32
+pub fn sae_widen(source: &[u8], target: &mut [u8]) -> u32
     ensures { MovesTo result target.new (moves Forward source.now target.old) }
 {
     let o = moves::move_table(Direction::Forward, source, target);
@@ -455,8 +442,7 @@ pub extern "C" fn sae_widen(source: &[u8], target: &mut [u8]) -> u32
 }
 
 // And back.
-#[unsafe(no_mangle)]
-pub extern "C" fn sae_narrow(source: &[u8], target: &mut [u8]) -> u32
+pub fn sae_narrow(source: &[u8], target: &mut [u8]) -> u32
     ensures { MovesTo result target.new (moves Back source.now target.old) }
 {
     let o = moves::move_table(Direction::Back, source, target);

@@ -12,12 +12,13 @@
 // line is left out. Calls write the number returned, event, stock group used, frames.
 #![tactic(auto)]
 
-ghost use Rattle.std.specs.Prelude.{◌<◌, ◌≤◌, length};
+ghost use Rattle.std.specs.Prelude.{◌<◌, ◌≤◌, length, IfOk};
 
 use answers::Answer;
 use frame::Body;
 use record::Settings;
 use rules::{Event, Frame, Frames};
+use std::io::{self, Read};
 
 // Our own address, and the peer's.
 const OWN: [u8; 6] = [2, 0, 0, 0, 0, 1];
@@ -26,6 +27,9 @@ const PEER: [u8; 6] = [2, 0, 0, 0, 0, 2];
 
 // The octets of a table of one slot.
 const TABLE: usize = 1112;
+
+// As many octets of the input are played.
+const TEXT: usize = 65536;
 
 // What the reader hands back of a body: its numbers, where its token or what stands behind a Confirm begins and how long it is, and where scalar
 // or value stands.
@@ -54,71 +58,68 @@ fn wide_size(x: usize) -> u64 {
 
 // ---- what is written
 
-fn number(n: u64) {
-    io::write_all(1, b" ");
-    io::print_decimal(1, n);
+fn number(rt: &impl Print, n: u64) -> io::Result<()> {
+    print!(rt; " {n}")
 }
 
-fn ends() {
-    io::write_all(1, b"\n");
+fn ends(rt: &impl Print) -> io::Result<()> {
+    println!(rt; "")
 }
 
-fn print_body(b: Body) {
+fn print_body(rt: &impl Print, b: Body) -> io::Result<()> {
     match b {
         Body::Commit { group, token } => {
-            io::write_all(1, b" commit");
-            number(wide16(group));
-            number(wide_size(token));
+            print!(rt; " commit")?;
+            number(rt, wide16(group))?;
+            number(rt, wide_size(token))
         }
         Body::Unsupported { group } => {
-            io::write_all(1, b" unsupported");
-            number(wide16(group));
+            print!(rt; " unsupported")?;
+            number(rt, wide16(group))
         }
         Body::TokenRequest { group, token } => {
-            io::write_all(1, b" token-request");
-            number(wide16(group));
-            number(wide_size(token));
+            print!(rt; " token-request")?;
+            number(rt, wide16(group))?;
+            number(rt, wide_size(token))
         }
         Body::GroupRefusal { group } => {
-            io::write_all(1, b" group-refusal");
-            number(wide16(group));
+            print!(rt; " group-refusal")?;
+            number(rt, wide16(group))
         }
         Body::OtherCommit { status } => {
-            io::write_all(1, b" commit-status");
-            number(wide16(status));
+            print!(rt; " commit-status")?;
+            number(rt, wide16(status))
         }
         Body::Confirm { counter } => {
-            io::write_all(1, b" confirm");
-            number(wide16(counter));
+            print!(rt; " confirm")?;
+            number(rt, wide16(counter))
         }
         Body::OtherConfirm { status } => {
-            io::write_all(1, b" confirm-status");
-            number(wide16(status));
+            print!(rt; " confirm-status")?;
+            number(rt, wide16(status))
         }
         Body::Malformed => {
-            io::write_all(1, b" refused");
-            number(7);
+            print!(rt; " refused")?;
+            number(rt, 7)
         }
     }
 }
 
-fn print_frame(f: Frame) {
-    io::write_all(1, b",");
-    number(wide16(f.sequence));
-    number(wide16(f.status));
-    number(wide16(f.group));
-    number(wide16(f.counter));
+fn print_frame(rt: &impl Print, f: Frame) -> io::Result<()> {
+    print!(rt; ",")?;
+    number(rt, wide16(f.sequence))?;
+    number(rt, wide16(f.status))?;
+    number(rt, wide16(f.group))?;
+    number(rt, wide16(f.counter))
 }
 
-fn print_frames(fs: Frames) {
+fn print_frames(rt: &impl Print, fs: Frames) -> io::Result<()> {
     match fs {
-        Frames::None => {}
-        Frames::One(f) => {
-            print_frame(f);
-        }
+        Frames::None => Ok(()),
+        Frames::One(f) => print_frame(rt, f),
         Frames::Two(f, g) => {
-            print_frame(f);
-            print_frame(g);
+            print_frame(rt, f)?;
+            print_frame(rt, g)
         }
     }
 }
@@ -132,15 +133,15 @@ fn event_number(e: Event) -> u64 {
     }
 }
 
-fn print_answer(a: Answer) {
+fn print_answer(rt: &impl Print, a: Answer) -> io::Result<()> {
     let o = a.outcome;
     let e = a.event;
     let fs = a.frames;
-    number(wide32(answers::returned_of(o)));
-    number(event_number(e));
-    number(wide16(a.afresh));
-    print_frames(fs);
-    ends();
+    number(rt, wide32(answers::returned_of(o)))?;
+    number(rt, event_number(e))?;
+    number(rt, wide16(a.afresh))?;
+    print_frames(rt, fs)?;
+    ends(rt)
 }
 
 // ---- hexadecimal
@@ -241,14 +242,14 @@ fn read_of(body: &[u8]) -> Body {
 }
 
 // The body is kept; answers its length.
-fn run_read(text: &[u8], body: &mut [u8]) -> usize {
+fn run_read(rt: &impl Print, text: &[u8], body: &mut [u8]) -> io::Result<usize> {
     let n = unhex(text, body);
     let b = read_of(first(body, n));
-    io::write_all(1, b"read");
-    number(wide_size(n));
-    print_body(b);
-    ends();
-    n
+    print!(rt; "read")?;
+    number(rt, wide_size(n))?;
+    print_body(rt, b)?;
+    ends(rt)?;
+    Ok(n)
 }
 
 // ---- a body's fields, and the body written again
@@ -334,23 +335,22 @@ fn has(letter: u8, body: &[u8], p: Parts, text: &[u8]) -> bool {
     has_octets(letter, body, p, first(&wanted, n))
 }
 
-fn print_same(same: bool) {
+fn print_same(rt: &impl Print, same: bool) -> io::Result<()> {
     if same {
-        io::write_all(1, b" agrees\n");
-        return;
+        return println!(rt; " agrees");
     }
-    io::write_all(1, b" differs\n");
+    println!(rt; " differs")
 }
 
 // The field's name, a space, then what is published for it.
-fn run_has(text: &[u8], t: &[u8], body: &[u8]) {
+fn run_has(rt: &impl Print, text: &[u8], t: &[u8], body: &[u8]) -> io::Result<()> {
     if text.len() == 0 {
-        return;
+        return Ok(());
     }
     let p = parts_of(read_parts(t, body));
     let e = end(text, 0, b' ');
-    io::write_all(1, first(text, e));
-    print_same(has(text[0], body, p, from(from(text, e), 1)));
+    rt.write_all(first(text, e))?;
+    print_same(rt, has(text[0], body, p, from(from(text, e), 1)))
 }
 
 // The parts are written into a lent buffer; answers the length written, 0 where the writer refuses.
@@ -370,23 +370,23 @@ fn write_again(t: &[u8], body: &[u8], p: Parts, out: &mut [u8]) -> usize {
     written as usize
 }
 
-fn run_again(t: &[u8], body: &[u8]) {
+fn run_again(rt: &impl Print, t: &[u8], body: &[u8]) -> io::Result<()> {
     let mut out = [170u8; 2400];
     let p = parts_of(read_parts(t, body));
     let n = write_again(t, body, p, &mut out);
-    io::write_all(1, b"again");
-    number(wide_size(n));
-    print_same(octets::is_same(first(&out, n), body));
+    print!(rt; "again")?;
+    number(rt, wide_size(n))?;
+    print_same(rt, octets::is_same(first(&out, n), body))
 }
 
 // ---- calls
 
-fn run_new(t: &mut [u8]) {
-    io::write_all(1, b"new");
-    print_answer(engine::initialize(t, OWN, Settings::factory()));
+fn run_new(rt: &impl Print, t: &mut [u8]) -> io::Result<()> {
+    print!(rt; "new")?;
+    print_answer(rt, engine::initialize(t, OWN, Settings::factory()))
 }
 
-fn run_only(t: &mut [u8]) {
+fn run_only(rt: &impl Print, t: &mut [u8]) -> io::Result<()> {
     let settings = Settings {
         count: 1,
         groups: [19, 0, 0],
@@ -394,8 +394,8 @@ fn run_only(t: &mut [u8]) {
         period: 0,
         limit: 0,
     };
-    io::write_all(1, b"only");
-    print_answer(engine::initialize(t, OWN, settings));
+    print!(rt; "only")?;
+    print_answer(rt, engine::initialize(t, OWN, settings))
 }
 
 // The stock's length goes by the header's count of groups.
@@ -423,125 +423,142 @@ fn has_two(t: &[u8]) -> bool {
     false
 }
 
-fn run_begin(t: &mut [u8]) {
+fn run_begin(rt: &impl Print, t: &mut [u8]) -> io::Result<()> {
     let two = has_two(t);
-    io::write_all(1, b"begin");
-    print_answer(begin(t, two));
+    print!(rt; "begin")?;
+    print_answer(rt, begin(t, two))
 }
 
-fn run_frame(text: &[u8], t: &mut [u8]) {
+fn run_frame(rt: &impl Print, text: &[u8], t: &mut [u8]) -> io::Result<()> {
     let mut body = [0u8; 2400];
     let n = unhex(text, &mut body);
     let two = has_two(t);
-    io::write_all(1, b"frame");
-    print_answer(received(t, first(&body, n), two));
+    print!(rt; "frame")?;
+    print_answer(rt, received(t, first(&body, n), two))
 }
 
 // One reading of the clock; answers whether a run was given up.
-fn tick(t: &mut [u8], time: u32) -> bool {
+fn tick(rt: &impl Print, t: &mut [u8], time: u32) -> io::Result<bool> {
     let a = engine::expire(t, time);
     let e = a.event;
     let fs = a.frames;
     match fs {
         Frames::None => {}
-        Frames::One(f) => {
-            number(wide32(time));
+        Frames::One(_) => {
+            number(rt, wide32(time))?;
         }
-        Frames::Two(f, g) => {
-            number(wide32(time));
+        Frames::Two(_, _) => {
+            number(rt, wide32(time))?;
         }
     }
     if event_number(e) == 2 {
-        io::write_all(1, b" given up");
-        number(wide32(time));
-        return true;
+        print!(rt; " given up")?;
+        number(rt, wide32(time))?;
+        return Ok(true);
     }
-    false
+    Ok(false)
 }
 
-fn run_silent(t: &mut [u8]) {
+fn run_silent(rt: &impl Print, t: &mut [u8]) -> io::Result<()> {
     let mut time: u32 = 0;
-    io::write_all(1, b"silent");
+    print!(rt; "silent")?;
     while time < 100000 {
-        if tick(t, time) {
-            ends();
-            return;
+        if tick(rt, t, time)? {
+            return ends(rt);
         }
         time += 1;
     }
-    ends();
+    ends(rt)
 }
 
 // A call, or a remark, by the first letter of its line.
-fn run_call(line: &[u8], t: &mut [u8]) {
+fn run_call(rt: &impl Print, line: &[u8], t: &mut [u8]) -> io::Result<()> {
     if line.len() < 3 {
-        return;
+        return Ok(());
     }
     let c = line[0];
     if c == b'#' {
-        io::write_all(1, line);
-        ends();
-        return;
+        rt.write_all(line)?;
+        return ends(rt);
     }
     if c == b'n' {
-        run_new(t);
-        return;
+        return run_new(rt, t);
     }
     if c == b'o' {
-        run_only(t);
-        return;
+        return run_only(rt, t);
     }
     if c == b'b' {
-        run_begin(t);
-        return;
+        return run_begin(rt, t);
     }
     if c == b's' {
-        run_silent(t);
-        return;
+        return run_silent(rt, t);
     }
     if c == b'f' {
-        run_frame(from(line, 6), t);
+        return run_frame(rt, from(line, 6), t);
     }
+    Ok(())
 }
 
 // A case by the first letter of its line; the first n octets of `body` are the body read last, whose length is answered.
-fn run_line(line: &[u8], t: &mut [u8], body: &mut [u8], n: usize) -> usize {
+fn run_line(
+    rt: &impl Print,
+    line: &[u8],
+    t: &mut [u8],
+    body: &mut [u8],
+    n: usize,
+) -> io::Result<usize> {
     if line.len() < 3 {
-        return n;
+        return Ok(n);
     }
     let c = line[0];
     if c == b'r' {
-        return run_read(from(line, 5), body);
+        return run_read(rt, from(line, 5), body);
     }
     if c == b'h' {
-        run_has(from(line, 4), t, first(body, n));
-        return n;
+        run_has(rt, from(line, 4), t, first(body, n))?;
+        return Ok(n);
     }
     if c == b'a' {
-        run_again(t, first(body, n));
-        return n;
+        run_again(rt, t, first(body, n))?;
+        return Ok(n);
     }
-    run_call(line, t);
-    n
+    run_call(rt, line, t)?;
+    Ok(n)
 }
 
-fn run_all(s: &[u8], t: &mut [u8], body: &mut [u8]) {
+fn run_all(rt: &impl Print, s: &[u8], t: &mut [u8], body: &mut [u8]) -> io::Result<()> {
     let mut n: usize = 0;
     let mut i: usize = 0;
     while i < s.len() {
         let e = end(s, i, b'\n');
-        n = run_line(&s[i..e], t, body, n);
+        n = run_line(rt, &s[i..e], t, body, n)?;
         if e >= s.len() {
-            return;
+            return Ok(());
         }
         i = e + 1;
     }
+    Ok(())
 }
 
-fn main() {
-    let mut text = io::large_buffer();
+// Reads until the buffer is full or the input ends; answers how many octets came.
+fn read_full(input: &mut impl Read, buffer: &mut [u8]) -> io::Result<usize>
+    ensures { IfOk result (λ n. n ≤ length buffer.new) }
+{
+    let mut done: usize = 0;
+    while done < buffer.len() {
+        let n = input.read(&mut buffer[done..])?;
+        if n == 0 {
+            return Ok(done);
+        }
+        done += n;
+    }
+    Ok(done)
+}
+
+fn main(rt: HostRuntime) -> io::Result<()> {
+    let mut text = [0u8; TEXT];
     let mut t = [0u8; TABLE];
     let mut body = [0u8; 2400];
-    let n = io::read_full(0, &mut text);
-    run_all(&text[..n], &mut t, &mut body);
+    let n = read_full(&mut rt.reader(), &mut text)?;
+    run_all(&rt, &text[..n], &mut t, &mut body)
 }

@@ -1,5 +1,4 @@
 use Rattle.acts.proofs.Laws.{repeat-ended, repeat-sent}
-use borrow.Author.Rules.{rules}
 use Rattle.acts.proofs.retransmit.Goals as goal
 
 pub returns-then-sync-limit : goal.returns-then-sync-limit

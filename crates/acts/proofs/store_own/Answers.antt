@@ -1,5 +1,4 @@
 use Rattle.acts.proofs.Laws.{store-own-law}
-use borrow.Author.Rules.{rules}
 use Rattle.acts.proofs.store_own.Goals as goal
 
 pub returns : goal.returns

@@ -1,5 +1,4 @@
 use Rattle.acts.proofs.Laws.{link-free, link-marked}
-use borrow.Author.Rules.{rules}
 use Rattle.acts.proofs.supersede_link.Goals as goal
 
 pub returns-then-finished-eq0 : goal.returns-then-finished-eq0

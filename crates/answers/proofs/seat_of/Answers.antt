@@ -1,5 +1,4 @@
 use Rattle.answers.proofs.Laws.{seating-old, seating-new}
-use borrow.Author.Rules.{rules}
 use Rattle.answers.proofs.seat_of.Goals as goal
 
 pub returns-in-At : goal.returns-in-At

@@ -1,5 +1,4 @@
 use Rattle.rules.specs.Book.{deadline}
-use Rattle.std.proofs.Common.{rules}
 use Rattle.deadlines.proofs.after.Goals as goal
 
 pub returns : goal.returns

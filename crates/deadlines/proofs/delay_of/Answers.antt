@@ -1,4 +1,4 @@
-use Rattle.std.proofs.Common.{ℕ, ◌+◌, ◌*◌, ◌^◌, ◌<◌, ◌≤◌, lt_of_le_of_lt, mod-eq_of_lt, mul-le-mul_left, arith, pow_mono, rules}
+use Rattle.std.proofs.Common.{ℕ, ◌+◌, ◌*◌, ◌^◌, ◌<◌, ◌≤◌, lt_of_le_of_lt, mod-eq_of_lt, mul-le-mul_left, arith, pow_mono}
 use Rattle.rules.specs.declared.Clock.{Clock}
 use Rattle.rules.specs.Given.{Paced}
 use Rattle.rules.specs.Book.{delay}

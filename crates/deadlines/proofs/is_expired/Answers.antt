@@ -1,4 +1,4 @@
-use Rattle.std.proofs.Common.{refl, rules}
+use Rattle.std.proofs.Common.{refl}
 use Rattle.rules.specs.Book.{expired, t1_due}
 use Rattle.deadlines.proofs.is_expired.Goals as goal
 

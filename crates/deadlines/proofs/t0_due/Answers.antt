@@ -1,4 +1,4 @@
-use Rattle.std.proofs.Common.{refl, rules}
+use Rattle.std.proofs.Common.{refl}
 use Rattle.rules.specs.Book.{t0_due}
 use Rattle.deadlines.proofs.t0_due.Goals as goal
 

@@ -1,6 +1,5 @@
 use Rattle.rules.specs.Book.{commit_act}
 use Rattle.decide.proofs.Rungs.{read_is, read-isnt}
-use borrow.Author.Rules.{rules}
 use Rattle.decide.proofs.commit.Goals as goal
 
 pub returns-then-state-eq1 : goal.returns-then-state-eq1

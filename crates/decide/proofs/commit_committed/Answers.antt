@@ -3,7 +3,6 @@ use borrow.Author.Tests.{eq-eqb, ne_eqb}
 use Rattle.rules.specs.Book.{commit_committed}
 use Rattle.rules.proofs.Branches.{holds-not-true, holds-not-false, answered-true, answered-false}
 use Rattle.decide.proofs.Rungs.{like-read, unlike-read}
-use borrow.Author.Rules.{rules}
 use Rattle.std.proofs.Common.{ap}
 use Rattle.std.specs.Prelude.{not}
 use Rattle.decide.proofs.commit_committed.Goals as goal

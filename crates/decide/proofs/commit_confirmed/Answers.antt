@@ -2,7 +2,6 @@ use mathlib.Core.Path.{refl}
 use borrow.Author.Tests.{eq-eqb, ne_eqb}
 use Rattle.rules.specs.Book.{commit_confirmed}
 use Rattle.decide.proofs.Rungs.{like-read, unlike-read, read_above, read-within}
-use borrow.Author.Rules.{rules}
 use Rattle.decide.proofs.commit_confirmed.Goals as goal
 
 pub returns-then-status-ne0 : goal.returns-then-status-ne0

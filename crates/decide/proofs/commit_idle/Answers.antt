@@ -2,7 +2,6 @@ use mathlib.Core.Path.{refl}
 use borrow.Author.Tests.{eq-eqb, ne_eqb}
 use Rattle.rules.specs.Book.{commit_idle}
 use Rattle.rules.proofs.Branches.{holds-true, holds-false, holds-not-true, holds-not-false, answered-true, answered-false}
-use borrow.Author.Rules.{rules}
 use Rattle.std.proofs.Common.{ap}
 use Rattle.std.specs.Prelude.{not}
 use Rattle.decide.proofs.commit_idle.Goals as goal

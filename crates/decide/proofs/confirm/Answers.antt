@@ -1,7 +1,6 @@
 use mathlib.Core.Path.{refl}
 use Rattle.rules.specs.Book.{confirm_act}
 use Rattle.decide.proofs.Rungs.{read_is, read-isnt}
-use borrow.Author.Rules.{rules}
 use Rattle.decide.proofs.confirm.Goals as goal
 
 pub returns-then-state-eq1 : goal.returns-then-state-eq1

@@ -3,7 +3,6 @@ use borrow.Author.Tests.{eq-eqb, ne_eqb}
 use Rattle.rules.specs.Book.{confirm_linked}
 use Rattle.rules.proofs.Branches.{holds-not-true, holds-not-false}
 use Rattle.decide.proofs.Rungs.{read_above, read-within, over-read, under-read}
-use borrow.Author.Rules.{rules}
 use Rattle.std.proofs.Common.{ap}
 use Rattle.std.specs.Prelude.{not}
 use Rattle.decide.proofs.confirm_linked.Goals as goal

@@ -1,6 +1,5 @@
 use borrow.Author.Tests.{eq-eqb, ne_eqb}
 use Rattle.rules.specs.Book.{frame_act}
-use borrow.Author.Rules.{rules}
 use Rattle.decide.proofs.frame.Goals as goal
 
 pub returns-then-sequence-eq1 : goal.returns-then-sequence-eq1

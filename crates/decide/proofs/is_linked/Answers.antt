@@ -1,5 +1,4 @@
 use Rattle.decide.proofs.Rungs.{no-link, other-link, this-link}
-use borrow.Author.Rules.{rules}
 use Rattle.decide.proofs.is_linked.Goals as goal
 
 pub returns-then-finished-eq0 : goal.returns-then-finished-eq0

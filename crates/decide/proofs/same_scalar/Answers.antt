@@ -1,5 +1,4 @@
 use Rattle.decide.proofs.Rungs.{same-scalar-law}
-use borrow.Author.Rules.{rules}
 use Rattle.decide.proofs.same_scalar.Goals as goal
 
 pub returns : goal.returns

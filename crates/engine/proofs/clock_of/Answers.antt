@@ -1,5 +1,4 @@
 use Rattle.engine.proofs.Starts.{clock-law}
-use borrow.Author.Rules.{rules}
 use Rattle.engine.proofs.clock_of.Goals as goal
 
 pub returns : goal.returns

@@ -1,12 +1,9 @@
 use Prim.Native.Nat.{◌≤◌, ◌-◌}
-use mathlib.Core.Path.{◌≡◌, sym, ◌∙◌}
+use mathlib.Core.Path.{◌≡◌}
 use Rattle.rules.specs.Book.{expired}
 use Rattle.table.specs.Table.{decode_table, slot}
-use Rattle.table.proofs.Laws.{reach}
 use Rattle.octets.specs.declared.Found.TheVariants.{Nothing}
 use Rattle.octets.specs.Scan.{first_below}
-use Rattle.octets.proofs.Scan.{first-none, first-hit, first_more, first-through}
-use borrow.Author.Rules.{rules}
 use Rattle.engine.proofs.due_below.Given as goal
 
 abbrev pub invariant-loop-i : goal.invariant-loop-i

@@ -1,5 +1,4 @@
 use Rattle.engine.proofs.Clocks.{due-law}
-use borrow.Author.Rules.{rules}
 use Rattle.engine.proofs.due_slot.Goals as goal
 
 pub returns : goal.returns

@@ -1,4 +1,3 @@
-use native.Mathlib.Omega.{arith}
 use Rattle.table.proofs.Laws.{looked-sized}
 use Rattle.engine.proofs.Clocks.{expire-unsound, expire-none, expire-held, expire-at}
 use borrow.Author.Rules.{rules}

@@ -1,6 +1,5 @@
 use mathlib.Core.Path.{sym, ap}
 use Rattle.engine.specs.InSlot.{found_in}
-use borrow.Author.Rules.{rules}
 use Rattle.engine.proofs.found_in.Goals as goal
 
 pub returns-in-At : goal.returns-in-At

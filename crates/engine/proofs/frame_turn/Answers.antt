@@ -1,6 +1,5 @@
 use mathlib.Core.Path.{refl}
 use Rattle.engine.proofs.Frames.{takes-if-unsound, takes-if-unusable, takes-found, listing-header}
-use borrow.Author.Rules.{rules}
 use Rattle.engine.proofs.frame_turn.Goals as goal
 
 pub returns-then-is_unsound : goal.returns-then-is_unsound

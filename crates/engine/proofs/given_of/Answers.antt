@@ -1,5 +1,4 @@
 use Rattle.engine.proofs.Starts.{given-law}
-use borrow.Author.Rules.{rules}
 use Rattle.engine.proofs.given_of.Goals as goal
 
 pub returns : goal.returns

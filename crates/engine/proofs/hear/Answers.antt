@@ -1,4 +1,3 @@
-use native.Mathlib.Omega.{arith}
 use mathlib.Core.Path.{sym, ◌∙◌}
 use Rattle.message.specs.View.{message_of}
 use Rattle.calls.specs.Calls.{fresh_in}

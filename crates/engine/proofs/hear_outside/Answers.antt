@@ -1,7 +1,6 @@
 use Rattle.message.specs.View.{message_of}
 use Rattle.engine.proofs.Headers.{count_fits, listed-count, blank-fits, blank-length, blank-free, blank-whole, ready}
 use Rattle.engine.proofs.Frames.{outside-refused, outside-said, outside-says}
-use borrow.Author.Rules.{rules}
 use Rattle.engine.proofs.hear_outside.Goals as goal
 
 pub slice_bounds-s-end : goal.slice_bounds-s-end

@@ -1,5 +1,4 @@
 use Rattle.engine.proofs.Starts.{initialize-done, initialize-refused}
-use borrow.Author.Rules.{rules}
 use Rattle.engine.proofs.initialize.Goals as goal
 
 pub returns-then-write_initial : goal.returns-then-write_initial

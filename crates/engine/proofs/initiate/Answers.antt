@@ -1,6 +1,5 @@
 use Rattle.engine.proofs.Headers.{enters-met}
 use Rattle.engine.proofs.Starts.{initiate-refused, initiate-goes, initiate-went}
-use borrow.Author.Rules.{rules}
 use Rattle.engine.proofs.initiate.Goals as goal
 
 pub start_turn-requires : goal.start_turn-requires

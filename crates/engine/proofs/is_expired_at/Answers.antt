@@ -2,7 +2,6 @@ use mathlib.Core.Path.{ap, ◌∙◌}
 use Rattle.record.specs.declared.Peer.{Peer}
 use Rattle.table.proofs.Octets.{window-law}
 use Rattle.rules.specs.Book.{expired}
-use borrow.Author.Rules.{rules}
 use Rattle.engine.proofs.is_expired_at.Goals as goal
 
 pub returns : goal.returns

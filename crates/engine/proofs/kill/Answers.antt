@@ -4,7 +4,6 @@ use Rattle.answers.specs.declared.Refusal.TheVariants as why
 use Rattle.calls.specs.Calls.{kill_turn}
 use Rattle.engine.proofs.Headers.{enters-met}
 use Rattle.engine.proofs.Starts.{kill-refused, kill-freed}
-use borrow.Author.Rules.{rules}
 use Rattle.engine.proofs.kill.Goals as goal
 
 pub free-requires : goal.free-requires

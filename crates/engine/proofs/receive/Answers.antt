@@ -1,6 +1,5 @@
 use Rattle.engine.proofs.Headers.{enters-met, met-listing}
 use Rattle.engine.proofs.Frames.{frame-fitting, given-brought, receive-refused, receive-goes, receive-went}
-use borrow.Author.Rules.{rules}
 use Rattle.engine.proofs.receive.Goals as goal
 
 pub frame_turn-a-requires : goal.frame_turn-a-requires

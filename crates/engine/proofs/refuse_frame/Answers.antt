@@ -1,7 +1,6 @@
 use Rattle.message.specs.declared.View.{View}
 use Rattle.answers.specs.declared.Turn.TheVariants as turn_is
 use mathlib.Core.Path.{ap}
-use borrow.Author.Rules.{rules}
 use Rattle.engine.proofs.refuse_frame.Goals as goal
 
 pub returns : goal.returns

@@ -1,4 +1,3 @@
-use native.Mathlib.Omega.{arith}
 use mathlib.Core.Path.{sym, ◌∙◌}
 use Rattle.engine.proofs.Headers.{held-sized, held_at, held-reached}
 use Rattle.engine.proofs.Windows.{slot-changed}

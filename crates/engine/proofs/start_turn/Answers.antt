@@ -2,7 +2,6 @@ use mathlib.Core.Path.{refl}
 use Rattle.table.specs.declared.Entry.TheVariants as entry-is
 use Rattle.calls.specs.Calls.{start_turn}
 use Rattle.engine.proofs.Starts.{start-by}
-use borrow.Author.Rules.{rules}
 use Rattle.engine.proofs.start_turn.Goals as goal
 
 pub admit_start-requires : goal.admit_start-requires

@@ -3,7 +3,6 @@ use Rattle.octets.specs.declared.Found.{Found}
 use Rattle.engine.specs.InSlot.{Held}
 use Rattle.engine.proofs.Headers.{held-reached}
 use Rattle.engine.proofs.Starts.{state-there, state-none}
-use borrow.Author.Rules.{rules}
 use Rattle.engine.proofs.state_of.Goals as goal
 
 pub state_at-requires : goal.state_at-requires

@@ -1,4 +1,3 @@
-use native.Mathlib.Omega.{arith}
 use Rattle.good_links.proofs.GoodLinks.{fill-uncounted, countable-long, countable-reaches, counted-long, fill-counted, fill-kept, fill-put-back}
 use borrow.Author.Rules.{rules}
 use Rattle.std.proofs.Common.{ap}

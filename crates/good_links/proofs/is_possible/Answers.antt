@@ -4,7 +4,6 @@ use Rattle.record.specs.declared.Form.{Form}
 use Rattle.record.proofs.Laws.{form-groups}
 use Rattle.soundness.specs.Soundness.{header_ok}
 use Rattle.good_links.specs.GoodLinks.{header_possible, counts_possible}
-use borrow.Author.Rules.{rules}
 use Rattle.good_links.proofs.is_possible.Goals as goal
 
 pub settings_ok-settings-requires : goal.settings_ok-settings-requires

@@ -1,5 +1,4 @@
 use Rattle.initial.proofs.Initial.{made-header}
-use borrow.Author.Rules.{rules}
 use Rattle.initial.proofs.initial_header.Goals as goal
 
 pub returns : goal.returns

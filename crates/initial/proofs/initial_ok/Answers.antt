@@ -2,7 +2,6 @@ use mathlib.Core.Path.{ap}
 use native.Mathlib.Omega.{arith}
 use Rattle.record.specs.declared.Form.{Form}
 use Rattle.initial.specs.Initial.{initial_ok}
-use borrow.Author.Rules.{rules}
 use Rattle.initial.proofs.initial_ok.Goals as goal
 
 pub settings_ok-settings-requires : goal.settings_ok-settings-requires

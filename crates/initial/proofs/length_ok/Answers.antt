@@ -1,6 +1,5 @@
 use native.Mathlib.Omega.{arith}
 use Rattle.initial.proofs.Initial.{made-size, length-short, length-by}
-use borrow.Author.Rules.{rules}
 use Rattle.initial.proofs.length_ok.Goals as goal
 
 pub returns-then-n-lt-HEADER : goal.returns-then-n-lt-HEADER

@@ -1,6 +1,5 @@
 use native.Mathlib.Omega.{arith}
 use Rattle.initial.proofs.Initial.{made-size, slots-by}
-use borrow.Author.Rules.{rules}
 use Rattle.initial.proofs.slots_for.Goals as goal
 
 pub nonzero_div-result : goal.nonzero_div-result

@@ -1,6 +1,5 @@
 use Rattle.initial.proofs.Initial.{refused-law, initial-by, long-by, written-law}
 use native.Mathlib.Omega.{arith}
-use borrow.Author.Rules.{rules}
 use Rattle.std.proofs.Common.{ap}
 use Rattle.std.specs.Prelude.{not}
 use Rattle.initial.proofs.write_initial.Goals as goal

@@ -1,4 +1,4 @@
-use Rattle.std.proofs.Common.{arith, rules}
+use Rattle.std.proofs.Common.{arith}
 use Rattle.lookups.proofs.Laws.{offset-refused, offset-unusable, offset-absent, offset_at, offset-small}
 use Rattle.lookups.proofs.find.Goals as goal
 

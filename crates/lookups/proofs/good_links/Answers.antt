@@ -1,5 +1,4 @@
 use Rattle.lookups.proofs.GoodLinks.{good-other, good-refused, good-answered}
-use Rattle.std.proofs.Common.{rules}
 use Rattle.std.proofs.Common.{ap}
 use Rattle.std.specs.Prelude.{not}
 use Rattle.lookups.proofs.good_links.Goals as goal

@@ -1,4 +1,4 @@
-use Rattle.std.proofs.Common.{ap, ◌∙◌, rules}
+use Rattle.std.proofs.Common.{ap, ◌∙◌}
 use Rattle.record.specs.declared.Peer.{Peer}
 use Rattle.table.proofs.Octets.{window-law}
 use Rattle.lookups.specs.Lookups.{peer_left}

@@ -1,7 +1,5 @@
 use Rattle.table.proofs.Laws.{reach}
-use Rattle.std.proofs.Common.{◌≡◌, ◌-◌, ◌≤◌, rules}
-use Rattle.table.specs.Table.{decode_table, slot}
-use Rattle.lookups.specs.Lookups.{peer_left, least_below}
+use Rattle.std.proofs.Common.{rules}
 use Rattle.lookups.proofs.Laws.{least-none, least_more, least-through}
 use Rattle.lookups.proofs.left_below.Goals as goal
 

@@ -1,8 +1,6 @@
-use Rattle.table.proofs.Laws.{reach}
-use Rattle.std.proofs.Common.{◌≡◌, ◌-◌, ◌≤◌, rules}
+use Rattle.std.proofs.Common.{◌≡◌, ◌-◌, ◌≤◌}
 use Rattle.table.specs.Table.{decode_table, slot}
 use Rattle.lookups.specs.Lookups.{peer_left, least_below}
-use Rattle.lookups.proofs.Laws.{least-none, least_more, least-through}
 use Rattle.lookups.proofs.left_below.Given as goal
 
 abbrev pub invariant-loop-i : goal.invariant-loop-i

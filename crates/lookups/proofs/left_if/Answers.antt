@@ -1,4 +1,4 @@
-use Rattle.std.proofs.Common.{refl, rules}
+use Rattle.std.proofs.Common.{refl}
 use borrow.Author.Tests.{not-true, not-false}
 use Rattle.std.proofs.Common.{ap}
 use Rattle.std.specs.Prelude.{not}

@@ -1,6 +1,5 @@
 use Rattle.table.proofs.Laws.{looked-sized}
 use Rattle.lookups.proofs.Laws.{asks-unsound, asks-least}
-use Rattle.std.proofs.Common.{rules}
 use Rattle.std.proofs.Common.{ap}
 use Rattle.std.specs.Prelude.{not}
 use Rattle.lookups.proofs.next_deadline.Goals as goal

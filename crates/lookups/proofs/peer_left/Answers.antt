@@ -1,5 +1,4 @@
 use Rattle.lookups.proofs.Laws.{peer-law}
-use Rattle.std.proofs.Common.{rules}
 use Rattle.lookups.proofs.peer_left.Goals as goal
 
 pub returns : goal.returns

@@ -1,4 +1,4 @@
-use Rattle.std.proofs.Common.{◌≡◌, ◌+◌, ◌-◌, ◌%◌, ◌^◌, arith, rules}
+use Rattle.std.proofs.Common.{◌≡◌, ◌+◌, ◌-◌, ◌%◌, ◌^◌, arith}
 use Rattle.lookups.proofs.Laws.{left-due, left-ahead}
 use Rattle.lookups.proofs.time_left.Goals as goal
 

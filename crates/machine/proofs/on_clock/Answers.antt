@@ -1,7 +1,6 @@
 use mathlib.Core.List.{[]}
 use Rattle.rules.specs.Given.{terms, call}
 use Rattle.machine.proofs.Rules.{clock-ends, clock-confirms, clock-repeats}
-use borrow.Author.Rules.{rules}
 use Rattle.std.proofs.Common.{ap}
 use Rattle.std.specs.Prelude.{not}
 use Rattle.machine.proofs.on_clock.Goals as goal

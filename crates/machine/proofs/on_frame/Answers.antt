@@ -1,7 +1,6 @@
 use Rattle.groups.specs.Groups.{fresh_of}
 use Rattle.message.specs.View.{message_of}
 use Rattle.machine.proofs.Rules.{asked-able, framed}
-use borrow.Author.Rules.{rules}
 use Rattle.machine.proofs.on_frame.Goals as goal
 
 pub perform-requires : goal.perform-requires

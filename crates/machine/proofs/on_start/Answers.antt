@@ -1,7 +1,6 @@
 use Rattle.groups.specs.Groups.{fresh_of}
 use Rattle.rules.specs.Given.{terms, call}
 use Rattle.machine.proofs.Rules.{start-begins, start-refused}
-use borrow.Author.Rules.{rules}
 use Rattle.machine.proofs.on_start.Goals as goal
 
 pub returns-then-full : goal.returns-then-full

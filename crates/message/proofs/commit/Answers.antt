@@ -1,5 +1,4 @@
 use Rattle.message.proofs.Laws.{heard-commit, heard-none}
-use borrow.Author.Rules.{rules}
 use Rattle.message.proofs.commit.Goals as goal
 
 pub returns-then-listed : goal.returns-then-listed

@@ -1,5 +1,4 @@
 use Rattle.message.proofs.Laws.{read-token, view-read}
-use borrow.Author.Rules.{rules}
 use Rattle.message.proofs.read.Goals as goal
 
 pub view_of-requires : goal.view_of-requires

@@ -1,5 +1,4 @@
 use Rattle.message.proofs.Laws.{token-law}
-use borrow.Author.Rules.{rules}
 use Rattle.message.proofs.stored_token.Goals as goal
 
 pub returns : goal.returns

@@ -1,7 +1,6 @@
 use native.Mathlib.Omega.{arith}
 use Rattle.frame.specs.declared.Body.TheVariants as body
 use Rattle.message.proofs.Laws.{view-law, view-length}
-use borrow.Author.Rules.{rules}
 use Rattle.message.proofs.view_of.Goals as goal
 
 pub overflow_cast-token : goal.overflow_cast-token

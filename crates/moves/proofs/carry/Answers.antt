@@ -1,5 +1,4 @@
 use mathlib.Core.Path.{◌≡◌}
-use native.Mathlib.Omega.{arith}
 use lib.ListN.{length}
 use Rattle.moves.proofs.Carries.{carry-beside, carry-law}
 use borrow.Author.Rules.{rules}

@@ -1,5 +1,4 @@
 use Rattle.moves.proofs.Records.{clear-law}
-use borrow.Author.Rules.{rules}
 use Rattle.moves.proofs.clear_part.Goals as goal
 
 pub returns : goal.returns

@@ -1,7 +1,6 @@
 use mathlib.Core.Path.{ap, ◌∙◌}
 use Rattle.octets.specs.Octets.{put}
 use Rattle.moves.proofs.Records.{slice-part}
-use borrow.Author.Rules.{rules}
 use Rattle.moves.proofs.copy_part.Goals as goal
 
 pub returns : goal.returns

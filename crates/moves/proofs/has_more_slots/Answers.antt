@@ -1,7 +1,6 @@
 use mathlib.Core.Path.{ap}
 use lib.Dec.{ltb}
 use Rattle.record.specs.declared.Form.{Form}
-use borrow.Author.Rules.{rules}
 use Rattle.moves.proofs.has_more_slots.Goals as goal
 
 pub returns : goal.returns

@@ -1,5 +1,4 @@
 use Rattle.moves.proofs.Moving.{forward-law, back-law}
-use borrow.Author.Rules.{rules}
 use Rattle.moves.proofs.is_hindered.Goals as goal
 
 pub returns-in-Forward : goal.returns-in-Forward

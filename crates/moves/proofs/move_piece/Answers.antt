@@ -1,6 +1,5 @@
 use native.Mathlib.Omega.{arith}
 use Rattle.moves.proofs.Records.{cut-law, filled-law}
-use borrow.Author.Rules.{rules}
 use Rattle.moves.proofs.move_piece.Goals as goal
 
 pub returns-then-v-w : goal.returns-then-v-w

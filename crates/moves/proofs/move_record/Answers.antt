@@ -1,4 +1,3 @@
-use native.Mathlib.Omega.{arith}
 use Rattle.moves.proofs.Records.{move-record-law}
 use borrow.Author.Rules.{rules}
 use Rattle.moves.proofs.move_record.Goals as goal

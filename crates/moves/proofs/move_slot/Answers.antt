@@ -1,4 +1,3 @@
-use native.Mathlib.Omega.{arith}
 use Rattle.moves.proofs.Carries.{slot-law}
 use borrow.Author.Rules.{rules}
 use Rattle.moves.proofs.move_slot.Goals as goal

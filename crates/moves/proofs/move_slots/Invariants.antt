@@ -1,11 +1,8 @@
 use mathlib.Core.Path.{◌≡◌}
 use Prim.Native.Nat.{◌≤◌, ◌-◌}
-use native.Mathlib.Omega.{arith}
 use lib.ListN.{take}
 use Rattle.octets.specs.Octets.{put}
 use Rattle.table.specs.Table.{decode_table, octets_of}
-use borrow.Author.Rules.{rules}
-use Rattle.moves.proofs.Carries.{none_yet, same-long, one-beside, one_more, all_done}
 use Rattle.moves.proofs.move_slots.Given as goal
 
 abbrev pub invariant-loop-i : goal.invariant-loop-i

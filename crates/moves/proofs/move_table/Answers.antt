@@ -1,5 +1,4 @@
 use Rattle.moves.proofs.Moving.{move-unsound, move-other, few-groups, move-hindered, target_fits, move-misfits, carried, move-done}
-use borrow.Author.Rules.{rules}
 use Rattle.std.proofs.Common.{ap}
 use Rattle.std.specs.Prelude.{not}
 use Rattle.moves.proofs.move_table.Goals as goal

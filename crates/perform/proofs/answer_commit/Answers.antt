@@ -2,7 +2,6 @@ use mathlib.Core.Path.{◌∙◌}
 use Rattle.message.specs.View.{message_of}
 use Rattle.acts.proofs.Laws.{run_lent, run-kept}
 use Rattle.perform.proofs.Performs.{answer-law, commit-storable}
-use borrow.Author.Rules.{rules}
 use Rattle.perform.proofs.answer_commit.Goals as goal
 
 pub form_pair-requires : goal.form_pair-requires

@@ -1,4 +1,3 @@
-use borrow.Author.Rules.{rules}
 use Rattle.perform.proofs.ask_token.Goals as goal
 
 pub returns : goal.returns

@@ -1,6 +1,5 @@
 use Rattle.groups.proofs.Laws.{room_in}
 use Rattle.perform.proofs.Performs.{begin-law}
-use borrow.Author.Rules.{rules}
 use Rattle.perform.proofs.begin.Goals as goal
 
 pub fresh_at-own-requires : goal.fresh_at-own-requires

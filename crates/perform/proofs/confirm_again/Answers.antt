@@ -1,5 +1,4 @@
 use Rattle.perform.proofs.Repeats.{confirm-again-law}
-use borrow.Author.Rules.{rules}
 use Rattle.perform.proofs.confirm_again.Goals as goal
 
 pub returns : goal.returns

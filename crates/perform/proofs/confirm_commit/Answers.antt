@@ -1,6 +1,5 @@
 use Rattle.message.specs.View.{message_of}
 use Rattle.perform.proofs.Performs.{confirm-law, commit-storable}
-use borrow.Author.Rules.{rules}
 use Rattle.perform.proofs.confirm_commit.Goals as goal
 
 pub form_pair-requires : goal.form_pair-requires

@@ -1,5 +1,4 @@
 use Rattle.perform.proofs.Repeats.{hear-again-law}
-use borrow.Author.Rules.{rules}
 use Rattle.perform.proofs.hear_again.Goals as goal
 
 pub returns : goal.returns

@@ -1,6 +1,5 @@
 use native.Mathlib.Omega.{arith}
 use Rattle.perform.proofs.Performs.{did-drop, did-refuse-group, did-ask-token, did-no-slot, did-answer-commit, did-confirm-commit, did-reply-token, did-switch-group, did-repeat-commit, did-repeat-refusal, did-resend-both, did-confirm-again, did-give-up, did-accept, did-hear-again, did-hear-last, did-end-link, did-begin}
-use borrow.Author.Rules.{rules}
 use Rattle.perform.proofs.perform.Goals as goal
 
 pub resend_both-requires : goal.resend_both-requires

@@ -1,5 +1,4 @@
 use Rattle.perform.proofs.Repeats.{repeat-commit-law}
-use borrow.Author.Rules.{rules}
 use Rattle.perform.proofs.repeat_commit.Goals as goal
 
 pub returns : goal.returns

@@ -1,5 +1,4 @@
 use Rattle.perform.proofs.Repeats.{repeat-refusal-law}
-use borrow.Author.Rules.{rules}
 use Rattle.perform.proofs.repeat_refusal.Goals as goal
 
 pub returns : goal.returns

@@ -1,5 +1,4 @@
 use Rattle.perform.proofs.Repeats.{resend-law}
-use borrow.Author.Rules.{rules}
 use Rattle.perform.proofs.resend_both.Goals as goal
 
 pub returns : goal.returns

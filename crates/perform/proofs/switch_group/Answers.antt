@@ -1,5 +1,4 @@
 use Rattle.perform.proofs.Switches.{switch-room, switch-law, switch-none}
-use borrow.Author.Rules.{rules}
 use Rattle.perform.proofs.switch_group.Goals as goal
 
 pub fresh_at-own-requires : goal.fresh_at-own-requires

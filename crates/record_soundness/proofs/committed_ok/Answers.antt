@@ -2,7 +2,6 @@ use Rattle.record.specs.Codec.{cut}
 use Rattle.record.specs.Layout.{decode_run, run_of, run_widths}
 use Rattle.soundness.specs.Soundness.{commit_ok}
 use Rattle.soundness.proofs.Tests.{peer-zeros, committed-by}
-use borrow.Author.Rules.{rules}
 use Rattle.record_soundness.proofs.committed_ok.Goals as goal
 
 pub returns : goal.returns

@@ -1,7 +1,6 @@
 use Rattle.record.specs.Codec.{cut}
 use Rattle.record.specs.Layout.{decode_run, run_of, run_widths}
 use Rattle.soundness.specs.Soundness.{confirmed_ok, commit_ok}
-use borrow.Author.Rules.{rules}
 use Rattle.record_soundness.proofs.confirmed_ok.Goals as goal
 
 pub returns : goal.returns

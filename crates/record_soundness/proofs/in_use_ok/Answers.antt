@@ -1,5 +1,4 @@
 use Rattle.soundness.proofs.Tests.{in-use-law}
-use borrow.Author.Rules.{rules}
 use Rattle.record_soundness.proofs.in_use_ok.Goals as goal
 
 pub returns : goal.returns

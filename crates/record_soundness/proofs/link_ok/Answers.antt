@@ -1,6 +1,5 @@
 use native.Mathlib.Omega.{arith}
 use Rattle.soundness.proofs.Tests.{link-nothing, link-finish}
-use borrow.Author.Rules.{rules}
 use Rattle.record_soundness.proofs.link_ok.Goals as goal
 
 pub returns-then-finished-eq0 : goal.returns-then-finished-eq0

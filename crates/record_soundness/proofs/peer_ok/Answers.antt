@@ -1,6 +1,5 @@
 use native.Mathlib.Omega.{arith}
 use Rattle.soundness.proofs.Tests.{peer-free, peer-used}
-use borrow.Author.Rules.{rules}
 use Rattle.record_soundness.proofs.peer_ok.Goals as goal
 
 pub returns-then-used-eq0 : goal.returns-then-used-eq0

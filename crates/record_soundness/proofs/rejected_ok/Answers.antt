@@ -1,7 +1,6 @@
 use Rattle.record.specs.Codec.{cut}
 use Rattle.record.specs.Layout.{decode_run, run_of, run_widths}
 use Rattle.soundness.proofs.Tests.{marks-at, marks-none}
-use borrow.Author.Rules.{rules}
 use Rattle.record_soundness.proofs.rejected_ok.Goals as goal
 
 pub returns-in-At : goal.returns-in-At

@@ -1,6 +1,5 @@
 use native.Mathlib.Omega.{arith}
 use Rattle.soundness.proofs.Tests.{run-nothing, run-committed, run-confirmed, run-other}
-use borrow.Author.Rules.{rules}
 use Rattle.record_soundness.proofs.run_ok.Goals as goal
 
 pub returns-then-state-eq0 : goal.returns-then-state-eq0

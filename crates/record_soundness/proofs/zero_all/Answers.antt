@@ -1,5 +1,4 @@
 use Rattle.soundness.proofs.Tests.{zero-whole, zero-length}
-use borrow.Author.Rules.{rules}
 use Rattle.record_soundness.proofs.zero_all.Goals as goal
 
 pub returns-then-n-narrow : goal.returns-then-n-narrow

@@ -1,5 +1,4 @@
 use Rattle.soundness.proofs.Tests.{tail_all, tail-stored}
-use borrow.Author.Rules.{rules}
 use Rattle.record_soundness.proofs.zero_tail.Goals as goal
 
 pub returns-then-n-eq0 : goal.returns-then-n-eq0

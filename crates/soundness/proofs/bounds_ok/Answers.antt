@@ -1,5 +1,4 @@
 use Rattle.soundness.specs.Soundness.{bounds_ok}
-use borrow.Author.Rules.{rules}
 use Rattle.soundness.proofs.bounds_ok.Goals as goal
 
 pub returns : goal.returns

@@ -1,5 +1,4 @@
 use Rattle.soundness.specs.Soundness.{geometry_ok}
-use borrow.Author.Rules.{rules}
 use Rattle.soundness.proofs.geometry_ok.Goals as goal
 
 pub returns : goal.returns

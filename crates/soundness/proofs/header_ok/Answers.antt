@@ -3,7 +3,6 @@ use Prim.Native.Nat.{◌≤◌}
 use Rattle.record.specs.declared.Form.{Form}
 use Rattle.soundness.specs.Soundness.{header_ok}
 use Rattle.record.proofs.Laws.{form-groups}
-use borrow.Author.Rules.{rules}
 use Rattle.soundness.proofs.header_ok.Goals as goal
 
 pub settings_ok-settings-requires : goal.settings_ok-settings-requires

@@ -1,5 +1,4 @@
 use Rattle.soundness.specs.Soundness.{usable}
-use borrow.Author.Rules.{rules}
 use Rattle.soundness.proofs.is_usable.Goals as goal
 
 pub returns : goal.returns

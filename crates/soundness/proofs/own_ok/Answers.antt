@@ -1,5 +1,4 @@
 use Rattle.soundness.specs.Soundness.{own_ok}
-use borrow.Author.Rules.{rules}
 use Rattle.soundness.proofs.own_ok.Goals as goal
 
 pub returns : goal.returns

@@ -1,5 +1,4 @@
 use Rattle.table.proofs.Laws.{addresses-few, addresses-all}
-use borrow.Author.Rules.{rules}
 use Rattle.table.proofs.addresses_ok.Goals as goal
 
 pub returns-then-used-lt2 : goal.returns-then-used-lt2

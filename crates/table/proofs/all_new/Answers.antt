@@ -1,10 +1,6 @@
 use borrow.Author.Rules.{rules}
 use Rattle.octets.proofs.Scan.{all_none, all_more, all-broke, all-through}
-use Rattle.octets.specs.Scan.{all_below}
-use Rattle.table.specs.Table.{new_key}
-use Prim.Native.Nat.{◌≤◌, ◌-◌}
-use mathlib.Core.Bool.{true}
-use mathlib.Core.Path.{◌≡◌, sym, ◌∙◌}
+use mathlib.Core.Path.{sym, ◌∙◌}
 use Rattle.table.proofs.all_new.Goals as goal
 
 pub loop-i-init : goal.loop-i-init

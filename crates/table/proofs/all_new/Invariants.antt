@@ -1,10 +1,8 @@
-use borrow.Author.Rules.{rules}
-use Rattle.octets.proofs.Scan.{all_none, all_more, all-broke, all-through}
 use Rattle.octets.specs.Scan.{all_below}
 use Rattle.table.specs.Table.{new_key}
 use Prim.Native.Nat.{◌≤◌, ◌-◌}
 use mathlib.Core.Bool.{true}
-use mathlib.Core.Path.{◌≡◌, sym, ◌∙◌}
+use mathlib.Core.Path.{◌≡◌}
 use Rattle.table.proofs.all_new.Given as goal
 
 abbrev pub invariant-loop-i : goal.invariant-loop-i

@@ -1,5 +1,4 @@
 use Rattle.table.proofs.Laws.{sound-long, sound-by, looked-unsound, looked-whole}
-use borrow.Author.Rules.{rules}
 use Rattle.std.proofs.Common.{ap}
 use Rattle.std.specs.Prelude.{not}
 use Rattle.table.proofs.check.Goals as goal

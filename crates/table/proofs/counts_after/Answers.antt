@@ -1,5 +1,4 @@
 use Rattle.table.proofs.Laws.{changed-reached, share-used, share-open, share-good, after-used, after_open, after-good, after-law}
-use borrow.Author.Rules.{rules}
 use Rattle.table.proofs.counts_after.Goals as goal
 
 pub is_used-requires : goal.is_used-requires

@@ -1,8 +1,6 @@
 use Rattle.table.proofs.Laws.{reach}
 use native.Mathlib.Omega.{arith}
-use Prim.Native.Nat.{◌≤◌, ◌-◌}
-use mathlib.Core.Path.{◌≡◌, sym}
-use Rattle.octets.specs.Scan.{count_below}
+use mathlib.Core.Path.{sym}
 use Rattle.octets.proofs.Scan.{count_none, count-step, count_fits, count-through, count-le}
 use Rattle.table.specs.Table.{decode_table, slot, in_use, is_open, is_good}
 use borrow.Author.Rules.{rules}
@@ -37,15 +35,15 @@ overflow_add-good c = let l = c.loop-i in
 
 pub loop-i-preserved : goal.loop-i-preserved
 loop-i-preserved c = let l = c.loop-i in (
-      search rules,
-      (
-        count-step _ l.i l.used c.one_if-used.result _ l.invariant.1.0 c.is_used.ensures c.one_if-used.ensures,
-        (
-          count-step _ l.i l.opened c.one_if-opened.result _ l.invariant.1.1.0 c.is_open.ensures c.one_if-opened.ensures,
-          count-step _ l.i l.good c.one_if-good.result _ l.invariant.1.1.1 c.is_good.ensures c.one_if-good.ensures,
-        ),
-      ),
-    )
+  search rules,
+  (
+    count-step _ l.i l.used c.one_if-used.result _ l.invariant.1.0 c.is_used.ensures c.one_if-used.ensures,
+    (
+      count-step _ l.i l.opened c.one_if-opened.result _ l.invariant.1.1.0 c.is_open.ensures c.one_if-opened.ensures,
+      count-step _ l.i l.good c.one_if-good.result _ l.invariant.1.1.1 c.is_good.ensures c.one_if-good.ensures,
+    ),
+  ),
+)
 
 pub overflow_cast-result : goal.overflow_cast-result
 overflow_cast-result c = let l = c.loop-i in

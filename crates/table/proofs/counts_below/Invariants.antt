@@ -1,11 +1,7 @@
-use Rattle.table.proofs.Laws.{reach}
-use native.Mathlib.Omega.{arith}
 use Prim.Native.Nat.{◌≤◌, ◌-◌}
-use mathlib.Core.Path.{◌≡◌, sym}
+use mathlib.Core.Path.{◌≡◌}
 use Rattle.octets.specs.Scan.{count_below}
-use Rattle.octets.proofs.Scan.{count_none, count-step, count_fits, count-through, count-le}
 use Rattle.table.specs.Table.{decode_table, slot, in_use, is_open, is_good}
-use borrow.Author.Rules.{rules}
 use Rattle.table.proofs.counts_below.Given as goal
 
 abbrev pub invariant-loop-i : goal.invariant-loop-i

@@ -1,5 +1,4 @@
 use Rattle.table.specs.Table.{counts_ok, used_count, open_count, good_count}
-use borrow.Author.Rules.{rules}
 use Rattle.table.proofs.counts_ok.Goals as goal
 
 pub returns : goal.returns

@@ -1,5 +1,4 @@
 use Rattle.table.proofs.Keys.{addresses-law}
-use borrow.Author.Rules.{rules}
 use Rattle.table.proofs.differ_in.Goals as goal
 
 pub returns : goal.returns

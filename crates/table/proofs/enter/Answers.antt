@@ -1,6 +1,5 @@
 use mathlib.Core.Path.{refl}
 use Rattle.table.proofs.Laws.{sound-long, sound-by, looked-whole, entered-unsound}
-use borrow.Author.Rules.{rules}
 use Rattle.std.proofs.Common.{ap}
 use Rattle.std.specs.Prelude.{not}
 use Rattle.table.proofs.enter.Goals as goal

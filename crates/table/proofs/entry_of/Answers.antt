@@ -1,6 +1,5 @@
 use mathlib.Core.Path.{refl}
 use Rattle.table.proofs.Laws.{enter-unusable, enter-at, enter-absent, looked-own, looked-sized}
-use borrow.Author.Rules.{rules}
 use Rattle.std.proofs.Common.{ap}
 use Rattle.std.specs.Prelude.{not}
 use Rattle.table.proofs.entry_of.Goals as goal

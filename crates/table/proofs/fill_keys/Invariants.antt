@@ -1,9 +1,5 @@
-use Rattle.table.proofs.Laws.{reach}
-use borrow.Author.Rules.{rules}
-use Rattle.table.proofs.Keys.{keys-more}
 use lib.ListN.{length, get_or}
 use Rattle.table.specs.Table.{decode_table, slot, key}
-use native.Mathlib.Omega.{arith}
 use Prim.Native.Nat.{ℕ, ◌≤◌, ◌<◌, ◌-◌}
 use mathlib.Core.Path.{◌≡◌}
 use Rattle.table.proofs.fill_keys.Given as goal

@@ -1,5 +1,4 @@
 use Rattle.table.proofs.Laws.{find-law}
-use borrow.Author.Rules.{rules}
 use Rattle.table.proofs.find.Goals as goal
 
 pub returns : goal.returns

@@ -1,14 +1,7 @@
 use Rattle.table.proofs.Laws.{reach}
 use borrow.Author.Rules.{rules}
 use Rattle.octets.proofs.Scan.{first-none, first_more, first-hit, first-through}
-use Rattle.octets.specs.Octets.{num}
-use lib.Dec.{eqb}
-use Rattle.octets.specs.declared.Found.TheVariants.{Nothing}
-use Rattle.octets.specs.Scan.{first_below}
-use Rattle.table.specs.Table.{decode_table, slot, in_use}
-use Prim.Native.Nat.{◌≤◌, ◌-◌}
-use mathlib.Core.Bool.{◌&&◌}
-use mathlib.Core.Path.{◌≡◌, sym, ◌∙◌}
+use mathlib.Core.Path.{sym, ◌∙◌}
 use Rattle.table.proofs.find_below.Goals as goal
 
 pub loop-i-init : goal.loop-i-init

@@ -1,6 +1,3 @@
-use Rattle.table.proofs.Laws.{reach}
-use borrow.Author.Rules.{rules}
-use Rattle.octets.proofs.Scan.{first-none, first_more, first-hit, first-through}
 use Rattle.octets.specs.Octets.{num}
 use lib.Dec.{eqb}
 use Rattle.octets.specs.declared.Found.TheVariants.{Nothing}
@@ -8,7 +5,7 @@ use Rattle.octets.specs.Scan.{first_below}
 use Rattle.table.specs.Table.{decode_table, slot, in_use}
 use Prim.Native.Nat.{◌≤◌, ◌-◌}
 use mathlib.Core.Bool.{◌&&◌}
-use mathlib.Core.Path.{◌≡◌, sym, ◌∙◌}
+use mathlib.Core.Path.{◌≡◌}
 use Rattle.table.proofs.find_below.Given as goal
 
 abbrev pub invariant-loop-i : goal.invariant-loop-i

@@ -2,12 +2,8 @@ use Rattle.table.proofs.Laws.{reach}
 use borrow.Author.Rules.{rules}
 use borrow.Author.Tests.{eq-eqb, ne_eqb}
 use Rattle.octets.proofs.Scan.{last_found, last_step, last-through}
-use lib.Dec.{eqb}
-use Rattle.octets.specs.Scan.{last_below}
-use Rattle.table.specs.Table.{decode_table, slot}
 use native.Mathlib.Omega.{arith}
-use Prim.Native.Nat.{◌≤◌, ◌-◌}
-use mathlib.Core.Path.{◌≡◌, refl, sym, ◌∙◌}
+use mathlib.Core.Path.{refl, sym, ◌∙◌}
 use Rattle.table.proofs.free_below.Goals as goal
 
 pub loop-i-init : goal.loop-i-init

@@ -1,13 +1,8 @@
-use Rattle.table.proofs.Laws.{reach}
-use borrow.Author.Rules.{rules}
-use borrow.Author.Tests.{eq-eqb, ne_eqb}
-use Rattle.octets.proofs.Scan.{last_found, last_step, last-through}
 use lib.Dec.{eqb}
 use Rattle.octets.specs.Scan.{last_below}
 use Rattle.table.specs.Table.{decode_table, slot}
-use native.Mathlib.Omega.{arith}
-use Prim.Native.Nat.{◌≤◌, ◌-◌}
-use mathlib.Core.Path.{◌≡◌, refl, sym, ◌∙◌}
+use Prim.Native.Nat.{◌≤◌}
+use mathlib.Core.Path.{◌≡◌}
 use Rattle.table.proofs.free_below.Given as goal
 
 abbrev pub invariant-loop-i : goal.invariant-loop-i

@@ -1,5 +1,4 @@
 use Rattle.table.proofs.Laws.{free_law}
-use borrow.Author.Rules.{rules}
 use Rattle.table.proofs.free_slot.Goals as goal
 
 pub returns : goal.returns

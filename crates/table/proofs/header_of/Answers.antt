@@ -1,5 +1,4 @@
 use Rattle.table.specs.Table.{decode_table}
-use borrow.Author.Rules.{rules}
 use Rattle.table.proofs.header_of.Goals as goal
 
 pub returns : goal.returns

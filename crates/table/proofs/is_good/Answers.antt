@@ -1,6 +1,5 @@
 use native.Mathlib.Omega.{arith}
 use Rattle.table.proofs.Octets.{good-at-law}
-use borrow.Author.Rules.{rules}
 use Rattle.table.proofs.is_good.Goals as goal
 
 pub returns : goal.returns

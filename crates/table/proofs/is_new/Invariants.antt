@@ -1,11 +1,9 @@
-use borrow.Author.Rules.{rules}
-use Rattle.table.proofs.Keys.{any_none, any-more, new-zero, new-law}
 use lib.Dec.{eqb}
 use lib.ListN.{get_or}
 use Rattle.octets.specs.Scan.{all_below}
 use Prim.Native.Nat.{◌≤◌, ◌-◌}
 use mathlib.Core.Bool.{not}
-use mathlib.Core.Path.{◌≡◌, refl}
+use mathlib.Core.Path.{◌≡◌}
 use Rattle.table.proofs.is_new.Given as goal
 
 abbrev pub invariant-loop-j : goal.invariant-loop-j

@@ -1,5 +1,4 @@
 use Rattle.table.proofs.Laws.{not-long}
-use borrow.Author.Rules.{rules}
 use Rattle.table.proofs.is_sound.Goals as goal
 
 pub returns-then-t-lt-HEADER : goal.returns-then-t-lt-HEADER

@@ -1,4 +1,3 @@
-use borrow.Author.Rules.{rules}
 use Rattle.table.proofs.is_used.Goals as goal
 
 pub returns : goal.returns

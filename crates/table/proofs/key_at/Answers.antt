@@ -1,5 +1,4 @@
 use Rattle.table.proofs.Keys.{key-yes, key-no}
-use borrow.Author.Rules.{rules}
 use Rattle.table.proofs.key_at.Goals as goal
 
 pub returns-then-is_used : goal.returns-then-is_used

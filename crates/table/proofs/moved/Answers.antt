@@ -1,6 +1,5 @@
 use Rattle.octets.proofs.Scan.{bit_le}
 use native.Mathlib.Omega.{arith}
-use borrow.Author.Rules.{rules}
 use Rattle.table.proofs.moved.Goals as goal
 
 pub overflow_add-result : goal.overflow_add-result

@@ -1,6 +1,5 @@
 use native.Mathlib.Omega.{arith}
 use Rattle.table.proofs.Octets.{number-at-law, number_small}
-use borrow.Author.Rules.{rules}
 use Rattle.table.proofs.number_at.Goals as goal
 
 pub returns : goal.returns

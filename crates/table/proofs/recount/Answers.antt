@@ -1,4 +1,3 @@
-use native.Mathlib.Omega.{arith}
 use Rattle.table.proofs.Octets.{recount-law}
 use borrow.Author.Rules.{rules}
 use Rattle.table.proofs.recount.Goals as goal

@@ -1,7 +1,6 @@
 use mathlib.Core.Path.{ap, ◌∙◌}
 use Rattle.soundness.specs.Soundness.{peer_ok}
 use Rattle.table.proofs.Octets.{window-law}
-use borrow.Author.Rules.{rules}
 use Rattle.table.proofs.slot_ok.Goals as goal
 
 pub returns : goal.returns

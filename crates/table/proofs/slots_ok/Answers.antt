@@ -1,12 +1,7 @@
 use Rattle.table.proofs.Laws.{reach}
 use borrow.Author.Rules.{rules}
-use Rattle.soundness.specs.Soundness.{peer_ok}
 use Rattle.octets.proofs.Scan.{all_none, all_more, all-broke, all-through}
-use Rattle.octets.specs.Scan.{all_below}
-use Rattle.table.specs.Table.{decode_table, slot}
-use Prim.Native.Nat.{◌≤◌, ◌-◌}
-use mathlib.Core.Bool.{true}
-use mathlib.Core.Path.{◌≡◌, sym, ◌∙◌}
+use mathlib.Core.Path.{sym, ◌∙◌}
 use Rattle.table.proofs.slots_ok.Goals as goal
 
 pub loop-i-init : goal.loop-i-init

@@ -1,12 +1,9 @@
-use Rattle.table.proofs.Laws.{reach}
-use borrow.Author.Rules.{rules}
 use Rattle.soundness.specs.Soundness.{peer_ok}
-use Rattle.octets.proofs.Scan.{all_none, all_more, all-broke, all-through}
 use Rattle.octets.specs.Scan.{all_below}
 use Rattle.table.specs.Table.{decode_table, slot}
 use Prim.Native.Nat.{◌≤◌, ◌-◌}
 use mathlib.Core.Bool.{true}
-use mathlib.Core.Path.{◌≡◌, sym, ◌∙◌}
+use mathlib.Core.Path.{◌≡◌}
 use Rattle.table.proofs.slots_ok.Given as goal
 
 abbrev pub invariant-loop-i : goal.invariant-loop-i

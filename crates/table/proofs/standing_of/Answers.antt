@@ -1,5 +1,4 @@
 use Rattle.table.proofs.Laws.{standing-law}
-use borrow.Author.Rules.{rules}
 use Rattle.table.proofs.standing_of.Goals as goal
 
 pub returns : goal.returns

@@ -1,5 +1,4 @@
 use Rattle.table.proofs.Octets.{used-at-law}
-use borrow.Author.Rules.{rules}
 use Rattle.table.proofs.used_at.Goals as goal
 
 pub returns : goal.returns

@@ -1,7 +1,6 @@
 -- `writer::write_parts` meets its contract: each branch by its law of Laws.
 use Rattle.writer.proofs.Laws.{share, listed-are, parts-unsound, parts-drawn}
 use Rattle.table.proofs.Laws.{looked-sound, looked-header}
-use borrow.Author.Rules.{rules}
 use Rattle.std.proofs.Common.{ap}
 use Rattle.std.specs.Prelude.{not}
 use Rattle.writer.proofs.write_parts.Goals as goal

@@ -1,7 +1,6 @@
 -- `writer::write_peer` meets its contract: each branch by its law of Laws.
 use Rattle.record.specs.Layout.{decode_peer}
 use Rattle.writer.proofs.Laws.{body-commit, body-confirm, body-neither}
-use borrow.Author.Rules.{rules}
 use Rattle.writer.proofs.write_peer.Goals as goal
 
 pub returns-then-sequence-eq1 : goal.returns-then-sequence-eq1

@@ -12,12 +12,10 @@ overflow_add-e c = let in_table : Reached c.args.t.now c.width_of-w.result c.in-
 
 pub slice_bounds-list-end : goal.slice_bounds-list-end
 slice_bounds-list-end c = let e = c.enter-e in
-    
     share _ (at-sound _ _ _ e.ensures _ c.in-At.is) e.result.header (at-header _ _ _ e.ensures _ c.in-At.is)
 
 pub slice_bounds-write_peer-end : goal.slice_bounds-write_peer-end
 slice_bounds-write_peer-end c = let e = c.enter-e in
-    
     listed-are _ (at-sound _ _ _ e.ensures _ c.in-At.is) e.result.header (at-header _ _ _ e.ensures _ c.in-At.is)
 
 pub slice_bounds-write_peer-end-in-At : goal.slice_bounds-write_peer-end-in-At
@@ -25,7 +23,6 @@ slice_bounds-write_peer-end-in-At c = let in_table : Reached c.args.t.now c.widt
 
 pub write_peer-written-requires : goal.write_peer-written-requires
 write_peer-written-requires c = let e = c.enter-e in
-    
     at-bounded _ _ _ e.ensures _ c.in-At.is _ c.width_of-w.ensures _ _ c.record_at-a.ensures
     c.record_size.ensures
 
@@ -40,6 +37,5 @@ returns-in-Absent c = record-absent _ _ _ c.enter-e.ensures _ _ _ c.in-Absent.is
 
 pub returns-in-At : goal.returns-in-At
 returns-in-At c = let e = c.enter-e in
-    
     record-drawn _ _ _ e.ensures _ c.in-At.is _ c.width_of-w.ensures _ _ c.record_at-a.ensures
     c.record_size.ensures _ _ _ _ _ _ c.write_peer-written.ensures c.wrote_of.ensures

@@ -1,7 +1,6 @@
 -- `writer::write_record_confirm` meets its contract: each branch by its law of Laws.
 use Rattle.record.specs.Layout.{decode_peer}
 use Rattle.writer.proofs.Laws.{confirm-run, confirm-early, confirm-link, confirm-none}
-use borrow.Author.Rules.{rules}
 use Rattle.writer.proofs.write_record_confirm.Goals as goal
 
 pub returns-then-state-eq2 : goal.returns-then-state-eq2

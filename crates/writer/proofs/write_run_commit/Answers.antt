@@ -5,7 +5,6 @@ use lib.ListN.{length}
 use lib.Seq.{length-take-le}
 use Rattle.record.specs.Layout.{decode_peer}
 use Rattle.writer.proofs.Laws.{token-held, own_held, commit-none, commit-run}
-use borrow.Author.Rules.{rules}
 use Rattle.writer.proofs.write_run_commit.Goals as goal
 
 pub returns-then-state-eq0 : goal.returns-then-state-eq0

@@ -1,7 +1,6 @@
 -- `writer::wrote_of` meets its contract: each branch by its law of Laws.
 use Rattle.writer.proofs.Laws.{wrote_by}
 use mathlib.Core.Path.{refl}
-use borrow.Author.Rules.{rules}
 use Rattle.writer.proofs.wrote_of.Goals as goal
 
 pub returns-in-Length : goal.returns-in-Length
