@@ -9,7 +9,7 @@ use lib.Dec.{eqb}
 use borrow.Author.Tests.{ne_eqb, not-true}
 use Rattle.protocol.specs.Model.{Commit, nothing, committed, confirmed, unlinked, finished, Act, fresh, form_fresh, form_own, send_commit, send_confirm, send_both, accept, end_run, end_link, idle, act, Uses, Forms, SendsCommit, SendsConfirm, Accepts, Unpaired, Guard}
 use Rattle.protocol.specs.Model as model
-use Rattle.octets.specs.Scan.{if◌then◌else◌}
+use Rattle.std.specs.Prelude.{if◌then◌else◌}
 use Rattle.octets.proofs.Scan.{clash}
 use Rattle.groups.specs.Groups.{fresh_for}
 use Rattle.record.specs.declared.Run.{Run}

@@ -10,7 +10,8 @@ use borrow.Author.Tests.{eqb-true}
 use Rattle.protocol.specs.Model.{Side, A, B}
 use Rattle.protocol.specs.Repeats.{begun, none, run, Limited}
 use Rattle.protocol.proofs.Repeats.{more-limited}
-use Rattle.octets.specs.Scan.{if◌then◌else◌, first_below}
+use Rattle.std.specs.Prelude.{if◌then◌else◌}
+use Rattle.octets.specs.Scan.{first_below}
 use Rattle.octets.specs.Octets.{Bytes, num, same_address}
 use Rattle.octets.proofs.Scan.{clash}
 use Rattle.record.specs.declared.Peer.{Peer}

@@ -6,7 +6,7 @@ use mathlib.Core.List.{List}
 use Prim.Native.Nat.{ℕ, ◌+◌, ◌≤◌}
 use lib.Dec.{eqb}
 use lib.ListN.{take}
-use Rattle.octets.specs.Scan.{if◌then◌else◌}
+use Rattle.std.specs.Prelude.{if◌then◌else◌}
 use Rattle.groups.specs.Groups.{stored, commit_length, fresh_for}
 use Rattle.frame.specs.Frame.{read_body, commit_of}
 use Rattle.frame.specs.declared.Body.TheVariants as body

@@ -23,7 +23,7 @@ use Rattle.record.specs.Layout.{no_peer, no_link}
 use Rattle.table.specs.Table.{decode_table, look}
 use Rattle.rules.specs.declared.Frame.{Frame}
 use Rattle.rules.specs.Book.{◌is◌}
-use Rattle.agreement.specs.Calls.{Call, receive, Entry, Handed, AllHanded, none, more, done, table_after, mine, table_of, answer_of, stepped, Comes, last, sooner}
+use Rattle.agreement.specs.Calls.{Call, receive, Entry, Handed, AllHanded, none, more, table_after, mine, table_of, answer_of, stepped, Comes, last, sooner}
 use Rattle.agreement.specs.Story.{Pair, exchanged, Story, is_confirm, frame_of, groups_in, limit_in, story_of}
 use Rattle.agreement.specs.Story as story
 use Rattle.agreement.specs.Sent.{drawn, expected_of, SendsBy, link_pair, made_over, SentOver}

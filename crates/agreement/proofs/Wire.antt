@@ -9,7 +9,7 @@ use lib.ListN.{length, take}
 use borrow.Author.Tests.{eqb-true}
 use Rattle.protocol.specs.Model.{Commit}
 use Rattle.octets.proofs.Scan.{clash}
-use Rattle.groups.specs.Groups.{known, listed, commit_length, stored}
+use Rattle.groups.specs.Groups.{listed, commit_length, stored}
 use Rattle.frame.specs.Frame.{read_body, group_of, commit_of, is_offer, body, commit_body}
 use Rattle.frame.specs.Writing.{Drawn, Octets, Outside, draw_commit, draw_token_request, draw_group_refusal, draw_confirm, draw_commits, draw_confirms, parts_body}
 use Rattle.frame.specs.declared.Body.TheVariants as body_is

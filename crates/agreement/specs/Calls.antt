@@ -1,7 +1,6 @@
 -- The list of calls of two printers: what is handed over, the table that each call gets, and what it answers. Lists have the newest call first.
-use Rattle.std.specs.Prelude.{◌≡◌, Bool, true, false, not, ◌&&◌, List, [], ◌∷◌, ℕ, ◌^◌, ◌<◌, length}
+use Rattle.std.specs.Prelude.{◌≡◌, Bool, true, false, not, ◌&&◌, List, [], ◌∷◌, ℕ, ◌^◌, ◌<◌, length, if◌then◌else◌}
 use Rattle.protocol.specs.Model.{Side, A, B}
-use Rattle.octets.specs.Scan.{if◌then◌else◌}
 use Rattle.octets.specs.Octets.{Bytes}
 use Rattle.record.specs.Layout.{form_of}
 use Rattle.good_links.specs.GoodLinks.{fills}

@@ -1,7 +1,6 @@
 -- What a printer sent to an address, octet by octet, and over which pair a Confirm was made.
-use Rattle.std.specs.Prelude.{◌≡◌, true, List, [], ◌∷◌, ℕ}
+use Rattle.std.specs.Prelude.{◌≡◌, true, List, [], ◌∷◌, ℕ, if◌then◌else◌}
 use Rattle.protocol.specs.Model.{Side}
-use Rattle.octets.specs.Scan.{if◌then◌else◌}
 use Rattle.octets.specs.Octets.{same_address}
 use Rattle.frame.specs.Writing.{Drawn, Octets, parts_body}
 use Rattle.table.specs.Table.{decode_table, look}

@@ -1,10 +1,9 @@
 -- What the answers of a printer's calls tell of one address, refused calls apart: commits used afresh, pairs formed, runs, the finished link and its
 -- mark, repeats. The table is read for its listed groups, which say how a frame is read and which place of the stock a group has, and for its Sync
 -- limit, which a run that begins keeps.
-use Rattle.std.specs.Prelude.{◌≡◌, Bool, true, false, not, ◌&&◌, ◌||◌, List, [], ◌∷◌, ℕ, ◌/◌, length}
+use Rattle.std.specs.Prelude.{◌≡◌, Bool, true, false, not, ◌&&◌, ◌||◌, List, [], ◌∷◌, ℕ, ◌/◌, length, if◌then◌else◌}
 use Rattle.protocol.specs.Model.{Side, Commit}
 use Rattle.protocol.specs.Repeats.{Tally, begun, more}
-use Rattle.octets.specs.Scan.{if◌then◌else◌}
 use Rattle.octets.specs.Octets.{same_address}
 use Rattle.groups.specs.Groups.{fresh_of, fresh_for}
 use Rattle.record.specs.Layout.{groups_of, limit_of}

@@ -9,7 +9,7 @@ use borrow.Author.Tests.{eqb-true}
 use Rattle.octets.specs.Octets.{Bytes, same_address}
 use Rattle.octets.proofs.Scan.{and_left, and_right}
 use Rattle.octets.proofs.Tests.{same-address, same-address-refl}
-use Rattle.octets.specs.Scan.{if◌then◌else◌}
+use Rattle.std.specs.Prelude.{if◌then◌else◌}
 use Rattle.octets.specs.declared.Found.{Found}
 use Rattle.octets.specs.declared.Found.TheVariants as found
 use Rattle.groups.specs.Groups.{width}

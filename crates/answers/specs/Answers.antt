@@ -1,6 +1,5 @@
 -- What calls answer: the numbered refusals, the answer, where a record is worked on, and the end of every call.
-use Rattle.std.specs.Prelude.{◌≡◌, true, List, ℕ, ◌<◌, replicate}
-use Rattle.octets.specs.Scan.{if◌then◌else◌}
+use Rattle.std.specs.Prelude.{◌≡◌, true, List, ℕ, ◌<◌, replicate, if◌then◌else◌}
 use Rattle.octets.specs.declared.Found.{Found}
 use Rattle.octets.specs.declared.Found.TheVariants as found
 use Rattle.rules.specs.declared.Event.TheVariants as event

@@ -18,7 +18,7 @@ use Rattle.record.proofs.Laws.{shape-peer}
 use Rattle.soundness.proofs.Laws.{run-states, peer-unused, peer-in-use}
 use Rattle.table.specs.Table.{decode_table, slot, look_by, look, sound, entry}
 use Rattle.table.proofs.Laws.{entry_at}
-use Rattle.rules.specs.Book.{◌is◌, has_run, has_link, Step, silence, on_start, on_frame, on_clock}
+use Rattle.rules.specs.Book.{has_run, has_link, Step, silence, on_start, on_frame, on_clock}
 use Rattle.rules.proofs.Ladders.{start-asked, frame-asked, clock-asked}
 use Rattle.rule_laws.specs.Deadlines.{Still, Ends, run_ends, link-ends}
 use Rattle.rule_laws.proofs.Deadlines.{StepMoves, still, has-sent, has_ended, act-moves}

@@ -5,7 +5,7 @@ use mathlib.Core.List.{List}
 use Prim.Native.Nat.{ℕ}
 use native.Mathlib.Omega.{arith}
 use Rattle.octets.specs.Octets.{Bytes}
-use Rattle.octets.specs.Scan.{if◌then◌else◌}
+use Rattle.std.specs.Prelude.{if◌then◌else◌}
 use Rattle.octets.specs.declared.Found.{Found}
 use Rattle.octets.specs.declared.Found.TheVariants as found
 use Rattle.record.specs.declared.Peer.{Peer}
@@ -13,7 +13,7 @@ use Rattle.table.specs.Table.{decode_table, encode_table, placed, slot, free_slo
 use Rattle.table.proofs.Kept.{placed-again}
 use Rattle.rules.specs.declared.Act.TheVariants.{Drop}
 use Rattle.rules.specs.declared.Frames.TheVariants.{None}
-use Rattle.rules.specs.Book.{◌is◌, Step, answering}
+use Rattle.rules.specs.Book.{Step, answering}
 use Rattle.rules.proofs.Drops.{drop_named, named-drop, drop-unchanged}
 use Rattle.answers.specs.declared.Refusal.TheVariants as why
 use Rattle.answers.specs.declared.Turn.{Turn}

@@ -8,7 +8,7 @@ use native.Mathlib.Nat.{mul-zero, mul-suc, mul-div_cancel_left}
 use lib.ListN.{length, take, drop, get_or, length-append}
 use lib.Seq.{take_at, drop_at, length-take-le}
 use borrow.Author.Tests.{eqb-true, eq-eqb, ne_eqb}
-use Rattle.octets.specs.Scan.{if◌then◌else◌}
+use Rattle.std.specs.Prelude.{if◌then◌else◌}
 use Rattle.octets.specs.Octets.{Bytes, part}
 use Rattle.octets.specs.declared.Found.{Found}
 use Rattle.octets.specs.declared.Found.TheVariants as found
@@ -20,7 +20,6 @@ use Rattle.groups.proofs.Fresh.{fresh-part, fresh-length}
 use Rattle.record.specs.declared.Form.{Form}
 use Rattle.record.specs.declared.Peer.{Peer}
 use Rattle.record.specs.Layout.{form_of, width_in, groups_of}
-use Rattle.record.specs.Codec.{cut}
 use Rattle.record.proofs.Laws.{form-width, Served, narrow-served, wide-served}
 use Rattle.soundness.specs.Soundness.{usable, commit_ok}
 use Rattle.soundness.proofs.Laws.{header-width}

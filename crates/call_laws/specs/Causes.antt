@@ -1,6 +1,6 @@
 -- Each call's causes of refusal, "in order of test".
-use Rattle.std.specs.Prelude.{Bool, true, false, not, ◌&&◌, ◌||◌, List, [], ◌∷◌, ℕ, eqb, ltb, length}
-use Rattle.octets.specs.Scan.{if◌then◌else◌, is_nothing}
+use Rattle.std.specs.Prelude.{Bool, true, false, not, ◌&&◌, ◌||◌, List, [], ◌∷◌, ℕ, eqb, ltb, length, if◌then◌else◌}
+use Rattle.octets.specs.Scan.{is_nothing}
 use Rattle.groups.specs.Groups.{fresh_ok}
 use Rattle.frame.specs.Writing.{Drawn, Octets, Outside}
 use Rattle.record.specs.declared.Form.{Form}

@@ -1,7 +1,6 @@
 -- "Others' calls reach a peer's record and answers only through Open against the threshold, free slots, and whose deadline the clock call takes": of a list of
 -- calls, which are about the peer, what reaches it at them, and what they answer. Lists have the newest call first.
-use Rattle.std.specs.Prelude.{◌≡◌, Bool, true, false, ◌&&◌, List, [], ◌∷◌, ℕ, ◌^◌, ◌<◌, length}
-use Rattle.octets.specs.Scan.{if◌then◌else◌}
+use Rattle.std.specs.Prelude.{◌≡◌, Bool, true, false, ◌&&◌, List, [], ◌∷◌, ℕ, ◌^◌, ◌<◌, length, if◌then◌else◌}
 use Rattle.octets.specs.Octets.{Bytes, same_address}
 use Rattle.table.specs.Table.{decode_table, belongs, look_by}
 use Rattle.answers.specs.declared.Answer.{Answer}

@@ -1,7 +1,7 @@
 -- THE CALLS: what each answers and the table that it leaves, as a definition of all that is handed over. Refusals stand in the order of their test; what
 -- is not refused is a step of the rule book, finished.
-use Rattle.std.specs.Prelude.{Bool, false, not, ◌&&◌, List, [], ℕ, eqb, leb, ltb, length, replicate}
-use Rattle.octets.specs.Scan.{if◌then◌else◌, is_nothing, first_below}
+use Rattle.std.specs.Prelude.{Bool, false, not, ◌&&◌, List, [], ℕ, eqb, leb, ltb, length, replicate, if◌then◌else◌}
+use Rattle.octets.specs.Scan.{is_nothing, first_below}
 use Rattle.octets.specs.declared.Found.{Found}
 use Rattle.octets.specs.declared.Found.TheVariants as found
 use Rattle.groups.specs.Groups.{fresh_of, fresh_ok}

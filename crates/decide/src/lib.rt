@@ -1,9 +1,8 @@
 // The ladders of the rule book: what a frame calls for. Only reads, and nothing is compared before it is asked.
 #![tactic(auto)]
 
-ghost use Rattle.std.specs.Prelude.{◌≡◌, ◌&&◌, not, ◌≤◌, eqb, length, take};
+ghost use Rattle.std.specs.Prelude.{◌≡◌, ◌&&◌, not, ◌≤◌, eqb, length, take, if◌then◌else◌};
 ghost use Rattle.octets.specs.Octets.{part, same};
-ghost use Rattle.octets.specs.Scan.{if◌then◌else◌};
 ghost use Rattle.groups.specs.Groups.{width, scalar_length, stored, Storable, fresh_of, fresh_for};
 ghost use Rattle.record.specs.Layout.{decode_peer, record_size};
 ghost use Rattle.rules.specs.declared.Act.TheVariants.{Drop};

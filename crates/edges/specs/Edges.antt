@@ -1,7 +1,7 @@
 -- The edges marked as proved, and those that the requests bring, as one table: each case asks a question of the definitions of calls and rules and has the
 -- numbers that answer it.
-use Rattle.std.specs.Prelude.{Bool, true, ◌&&◌, List, [], ◌∷◌, ◌++◌, ℕ, zero, suc, ◌+◌, replicate}
-use Rattle.octets.specs.Scan.{if◌then◌else◌, bit}
+use Rattle.std.specs.Prelude.{Bool, true, ◌&&◌, List, [], ◌∷◌, ◌++◌, ℕ, zero, suc, ◌+◌, replicate, if◌then◌else◌}
+use Rattle.octets.specs.Scan.{bit}
 use Rattle.octets.specs.Octets.{oct, same}
 use Rattle.octets.specs.declared.Found.{Found}
 use Rattle.octets.specs.declared.Found.TheVariants as found

@@ -8,7 +8,7 @@ use lib.Dec.{eqb}
 use lib.ListN.{length, drop}
 use borrow.Author.Tests.{lt-ltb, le-ltb, eq-eqb, ne_eqb}
 use Rattle.groups.specs.Groups.{commit_length, listed}
-use Rattle.octets.specs.Scan.{if◌then◌else◌}
+use Rattle.std.specs.Prelude.{if◌then◌else◌}
 use Rattle.frame.specs.declared.Field.{Field}
 use Rattle.frame.specs.declared.Head.{Head}
 use Rattle.frame.specs.declared.Body.{Body}

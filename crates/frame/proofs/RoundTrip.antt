@@ -9,7 +9,7 @@ use lib.ListN.{length, take, drop, length-append}
 use lib.Seq.{length-take-le}
 use borrow.Author.Tests.{le-ltb, eq-eqb, ne_eqb}
 use Rattle.octets.specs.Octets.{part, oct, all_zero, Bytes}
-use Rattle.octets.specs.Scan.{if◌then◌else◌}
+use Rattle.std.specs.Prelude.{if◌then◌else◌}
 use Rattle.octets.proofs.Laws.{num-oct, oct-part, part-add, part-all, length_part, bytes_take}
 use Rattle.groups.specs.Groups.{width, commit_length, listed, stored}
 use Rattle.groups.proofs.Laws.{commit-fits, stored-tail}

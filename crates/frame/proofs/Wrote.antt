@@ -10,7 +10,7 @@ use lib.ListN.{length, take, drop}
 use lib.Seq.{take_at, drop_at}
 use borrow.Author.Tests.{ltb-true, ltb-false, eqb-true, eqb-false, le-ltb}
 use Rattle.octets.specs.Octets.{part, put, oct, Bytes}
-use Rattle.octets.specs.Scan.{if◌then◌else◌}
+use Rattle.std.specs.Prelude.{if◌then◌else◌}
 use Rattle.octets.proofs.Laws.{length-put, bytes-append, bytes-oct}
 use Rattle.groups.specs.Groups.{commit_length, listed}
 use Rattle.frame.specs.declared.Written.{Written}

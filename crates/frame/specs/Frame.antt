@@ -1,7 +1,6 @@
 -- 'Frame bodies': the shapes of Authentication frame bodies, as a reader takes them apart and as a writer makes them.
-use Rattle.std.specs.Prelude.{Bool, true, false, List, [], ◌∷◌, ◌++◌, ℕ, zero, suc, ◌+◌, ◌-◌, eqb, ltb, length, drop}
+use Rattle.std.specs.Prelude.{Bool, true, false, List, [], ◌∷◌, ◌++◌, ℕ, zero, suc, ◌+◌, ◌-◌, eqb, ltb, length, drop, if◌then◌else◌}
 use Rattle.octets.specs.Octets.{part, num, oct}
-use Rattle.octets.specs.Scan.{if◌then◌else◌}
 use Rattle.groups.specs.Groups.{scalar_length, element_length, commit_length, listed}
 use Rattle.frame.specs.declared.Field.{Field}
 use Rattle.frame.specs.declared.Head.{Head}

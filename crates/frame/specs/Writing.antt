@@ -1,7 +1,6 @@
 -- The writer: which octets a frame's parts make, what is answered, and what the lent buffer holds then.
-use Rattle.std.specs.Prelude.{List, ◌≡◌, ℕ, eqb, ltb, length}
+use Rattle.std.specs.Prelude.{List, ◌≡◌, ℕ, eqb, ltb, length, if◌then◌else◌}
 use Rattle.octets.specs.Octets.{put}
-use Rattle.octets.specs.Scan.{if◌then◌else◌}
 use Rattle.groups.specs.Groups.{commit_length, listed}
 use Rattle.frame.specs.Frame.{commit_body, token_request_body, group_refusal_body, confirm_body}
 use Rattle.frame.specs.declared.Body.{Body}

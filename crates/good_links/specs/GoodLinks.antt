@@ -1,7 +1,6 @@
 -- How many good links: the table with the true count filled in, and which 32 octets a sound table can start with.
-use Rattle.std.specs.Prelude.{◌≡◌, Bool, true, ◌&&◌, List, ℕ, eqb, leb, length, take}
+use Rattle.std.specs.Prelude.{◌≡◌, Bool, true, ◌&&◌, List, ℕ, eqb, leb, length, take, if◌then◌else◌}
 use Rattle.octets.specs.Octets.{Bytes, oct, put}
-use Rattle.octets.specs.Scan.{if◌then◌else◌}
 use Rattle.record.specs.declared.Counts.{Counts}
 use Rattle.record.specs.declared.Header.{Header}
 use Rattle.record.specs.Layout.{decode_header, record_at}

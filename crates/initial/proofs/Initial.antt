@@ -13,7 +13,8 @@ use borrow.Rule.Slice.PartMut.{put_mid}
 use borrow.Author.Tests.{eqb-true, leb-true, eq-eqb, ne_eqb, not-true, not-false}
 use Rattle.octets.specs.Octets.{Bytes, put}
 use Rattle.octets.proofs.Laws.{mid-put}
-use Rattle.octets.specs.Scan.{if◌then◌else◌, count_below}
+use Rattle.std.specs.Prelude.{if◌then◌else◌}
+use Rattle.octets.specs.Scan.{count_below}
 use Rattle.octets.proofs.Scan.{clash, and_left, and_right}
 use Rattle.record.specs.declared.Form.{Form as Kind}
 use Rattle.record.specs.declared.Peer.{Peer}

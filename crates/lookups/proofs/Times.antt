@@ -1,7 +1,7 @@
 -- A TIME LEFT and the clock: until it has passed no deadline is due, and then one is. Readings and deadlines are below 2^32; the clock wraps.
 use Rattle.std.proofs.Common.{◌≡◌, ℕ, zero, suc, ◌+◌, ◌-◌, ◌%◌, ◌^◌, ◌<◌, ◌≤◌, Bool, true, false, ◌&&◌, ◌||◌, ltb, ◌⊎◌, refl, inl, inr, arith, ltb-false, ltb-true, le-ltb, lt-ltb}
 use native.Mathlib.Decide.{ℕ_discrete}
-use Rattle.octets.specs.Scan.{if◌then◌else◌}
+use Rattle.std.specs.Prelude.{if◌then◌else◌}
 use Rattle.octets.proofs.Scan.{cases}
 use Rattle.groups.specs.Groups.{width}
 use Rattle.record.specs.declared.Peer.{Peer}

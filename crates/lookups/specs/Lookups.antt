@@ -1,7 +1,6 @@
 -- THE LOOKUPS: what a host asks of a table that stays as it is. How long until the clock call is wanted next; where the record of an address lies; how many
 -- good links.
-use Rattle.std.specs.Prelude.{ℕ, zero, suc, ◌+◌, ◌-◌, ◌%◌, ◌^◌, Bool, List, nat_lt}
-use Rattle.octets.specs.Scan.{if◌then◌else◌}
+use Rattle.std.specs.Prelude.{ℕ, zero, suc, ◌+◌, ◌-◌, ◌%◌, ◌^◌, Bool, List, nat_lt, if◌then◌else◌}
 use Rattle.record.specs.declared.Peer.{Peer}
 use Rattle.record.specs.Layout.{decode_header, record_at}
 use Rattle.table.specs.Table.{Table, width_of, decode_table, slots, slot, sound, entry}

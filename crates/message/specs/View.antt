@@ -1,6 +1,5 @@
 -- What the rules see of a frame: one view of its body, and the message that it gives.
-use Rattle.std.specs.Prelude.{Bool, true, false, List, ◌++◌, ℕ, ◌-◌, length, replicate}
-use Rattle.octets.specs.Scan.{if◌then◌else◌}
+use Rattle.std.specs.Prelude.{Bool, true, false, List, ◌++◌, ℕ, ◌-◌, length, replicate, if◌then◌else◌}
 use Rattle.groups.specs.Groups.{width, stored}
 use Rattle.frame.specs.Frame.{read_body, token_of, commit_of}
 use Rattle.frame.specs.declared.Body.{Body}

@@ -9,7 +9,7 @@ use lib.ListN.{length, get_or}
 use lib.Seq.{length-take-le}
 use borrow.Author.Tests.{eqb-true, eq-eqb, le-leb, le-ltb, ltb-false}
 use Rattle.octets.specs.Octets.{Bytes}
-use Rattle.octets.specs.Scan.{if◌then◌else◌}
+use Rattle.std.specs.Prelude.{if◌then◌else◌}
 use Rattle.octets.proofs.Scan.{clash, and_left, and_right, and_both}
 use Rattle.groups.specs.Groups.{known, commit_length, listable, listed}
 use Rattle.groups.proofs.Laws.{listable-known, listable-room, listable-narrow, listable-wide}

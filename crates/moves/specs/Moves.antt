@@ -1,8 +1,7 @@
 -- MOVES BETWEEN THE FORMS: "One call moves a table of 864-octet records to the 1,080 form, another moves it back; runs, deadlines and tokens go along." What
 -- a move answers and leaves in its target, as a definition of all that is handed over. The source is only read.
-use Rattle.std.specs.Prelude.{◌≡◌, Bool, true, not, ◌&&◌, List, ℕ, ◌+◌, ◌≤◌, eqb, ltb, length}
+use Rattle.std.specs.Prelude.{◌≡◌, Bool, true, not, ◌&&◌, List, ℕ, ◌+◌, ◌≤◌, eqb, ltb, length, if◌then◌else◌}
 use Rattle.octets.specs.Octets.{Bytes}
-use Rattle.octets.specs.Scan.{if◌then◌else◌}
 use Rattle.groups.specs.Groups.{width, listed}
 use Rattle.record.specs.declared.Form.{Form}
 use Rattle.record.specs.declared.Header.{Header}

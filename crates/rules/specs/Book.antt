@@ -4,8 +4,7 @@
 --   3  the acts                what each does to the record, what it sends and tells
 --   4  the rules               perform what the ladder says; there is no other saying of them
 -- A request that changes when something is done changes a line of 2; one that changes what is done changes a case of 3.
-use Rattle.std.specs.Prelude.{Bool, true, false, not, ◌&&◌, ◌||◌, List, ℕ, ◌+◌, ◌-◌, ◌*◌, ◌^◌, ◌%◌, eqb, ltb, take, get_or, replicate}
-use Rattle.octets.specs.Scan.{if◌then◌else◌}
+use Rattle.std.specs.Prelude.{Bool, true, false, not, ◌&&◌, ◌||◌, List, ℕ, ◌+◌, ◌-◌, ◌*◌, ◌^◌, ◌%◌, eqb, ltb, take, get_or, replicate, if◌then◌else◌}
 use Rattle.octets.specs.Octets.{part, same, higher}
 use Rattle.groups.specs.Groups.{width, scalar_length, index_of, mark, first_left, fresh_at, fresh_for}
 use Rattle.groups.specs.declared.Choice.{Choice}

@@ -10,7 +10,7 @@ use lib.ListN.{length, take, drop, length-drop}
 use lib.Seq.{take_all, length-take-le}
 use borrow.Author.Tests.{ne_eqb}
 use Rattle.octets.specs.Octets.{part, num, oct, Bytes}
-use Rattle.octets.specs.Scan.{if◌then◌else◌}
+use Rattle.std.specs.Prelude.{if◌then◌else◌}
 use Rattle.octets.proofs.Laws.{num-oct}
 use Rattle.frame.specs.Frame.{field, elements_of, read_body, token_of, value_of}
 use Rattle.frame.specs.declared.Body.{Body}

@@ -1,7 +1,6 @@
 -- The octets of the C interface: answers and parts out; the settings' stand in record. Every field is little-endian.
-use Rattle.std.specs.Prelude.{◌≡◌, Bool, true, false, ◌&&◌, ◌||◌, List, ◌++◌, ℕ, ◌+◌, ◌≤◌, length, replicate}
+use Rattle.std.specs.Prelude.{◌≡◌, Bool, true, false, ◌&&◌, ◌||◌, List, ◌++◌, ℕ, ◌+◌, ◌≤◌, length, replicate, if◌then◌else◌}
 use Rattle.octets.specs.Octets.{oct}
-use Rattle.octets.specs.Scan.{if◌then◌else◌}
 use Rattle.frame.specs.Frame.{elements_of}
 use Rattle.record.specs.Layout.{groups_of}
 use Rattle.rules.specs.Book.{◌is◌, event_number}

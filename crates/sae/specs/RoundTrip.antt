@@ -1,7 +1,6 @@
 -- "What is written reads back; a status 0 Confirm or supported Commit, once read, is written again as the same octets", through the 20 octets of parts.
-use Rattle.std.specs.Prelude.{◌≡◌, true, List, [], ℕ, ◌≤◌, length, take}
+use Rattle.std.specs.Prelude.{◌≡◌, true, List, [], ℕ, ◌≤◌, length, take, if◌then◌else◌}
 use Rattle.octets.specs.Octets.{part, put, num}
-use Rattle.octets.specs.Scan.{if◌then◌else◌}
 use Rattle.groups.specs.Groups.{commit_length}
 use Rattle.frame.specs.Frame.{elements_of, read_body}
 use Rattle.frame.specs.declared.Body.TheVariants as body

@@ -12,7 +12,8 @@ use lib.ListN.{length}
 use lib.Seq.{get_or-set_same, get_or-set_other}
 use borrow.Author.Tests.{eqb-true, leb-true, eq-eqb, le-leb, lt-leb, ne_eqb, not-true, not-false}
 use Rattle.octets.specs.Octets.{num, same_address}
-use Rattle.octets.specs.Scan.{if◌then◌else◌, all_below, count_below, first_below, last_below, bit}
+use Rattle.std.specs.Prelude.{if◌then◌else◌}
+use Rattle.octets.specs.Scan.{all_below, count_below, first_below, last_below, bit}
 use Rattle.octets.specs.declared.Found.{Found}
 use Rattle.octets.specs.declared.Found.TheVariants.{At, Nothing}
 use Rattle.octets.proofs.Scan.{cases, clash, and_left, and_right, and_both, all_true, all_of, first-at, first-nothing, last-at, count-but, count-le, bit_le}

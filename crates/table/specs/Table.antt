@@ -1,7 +1,7 @@
 -- The lent table as a value, a header and a list of records: its octets, its form, its searches, and a record placed in a slot.
-use Rattle.std.specs.Prelude.{◌≡◌, Bool, true, not, ◌&&◌, ◌||◌, List, [], ◌∷◌, ◌++◌, ℕ, zero, suc, ◌+◌, ◌-◌, ◌/◌, ◌≤◌, ◌<◌, eqb, leb, length, take, drop, get_or, set}
+use Rattle.std.specs.Prelude.{◌≡◌, Bool, true, not, ◌&&◌, ◌||◌, List, [], ◌∷◌, ◌++◌, ℕ, zero, suc, ◌+◌, ◌-◌, ◌/◌, ◌≤◌, ◌<◌, eqb, leb, length, take, drop, get_or, set, if◌then◌else◌}
 use Rattle.octets.specs.Octets.{num, same_address}
-use Rattle.octets.specs.Scan.{all_below, count_below, first_below, last_below, bit, if◌then◌else◌}
+use Rattle.octets.specs.Scan.{all_below, count_below, first_below, last_below, bit}
 use Rattle.octets.specs.declared.Found.{Found}
 use Rattle.octets.specs.declared.Found.TheVariants.{At, Nothing}
 use Rattle.groups.specs.Groups.{width}

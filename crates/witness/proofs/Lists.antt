@@ -8,7 +8,7 @@ use native.Mathlib.Omega.{arith}
 use lib.Dec.{lit<}
 use lib.ListN.{length, replicate, get_or}
 use Rattle.protocol.specs.Model.{Side, A, B, other, Commit}
-use Rattle.octets.specs.Scan.{if◌then◌else◌}
+use Rattle.std.specs.Prelude.{if◌then◌else◌}
 use Rattle.octets.specs.Octets.{Bytes, oct, same_address}
 use Rattle.octets.proofs.Laws.{bytes-append, bytes-oct}
 use Rattle.octets.proofs.Scan.{clash}

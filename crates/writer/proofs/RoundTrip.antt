@@ -10,7 +10,7 @@ use lib.ListN.{length, take}
 use lib.Seq.{take_all, length-take-le}
 use borrow.Author.Tests.{lt-ltb, le-ltb, eqb-true}
 use Rattle.octets.specs.Octets.{part, Bytes}
-use Rattle.octets.specs.Scan.{if◌then◌else◌}
+use Rattle.std.specs.Prelude.{if◌then◌else◌}
 use Rattle.octets.specs.declared.Found.TheVariants as found
 use Rattle.frame.specs.Frame.{read_body, token_of, commit_of, value_of, commit_body, token_request_body, group_refusal_body, confirm_body}
 use Rattle.frame.specs.declared.Body.TheVariants as body

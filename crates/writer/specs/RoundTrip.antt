@@ -1,8 +1,7 @@
 -- "What is written reads back; a status 0 Confirm or supported Commit, once read, is written again as the same octets", of the writer's calls; of Confirms just
 -- those of 40 octets.
-use Rattle.std.specs.Prelude.{◌≡◌, true, ◌&&◌, List, [], ◌⊎◌, ℕ, ◌≤◌, ◌<◌, length, take, drop}
+use Rattle.std.specs.Prelude.{◌≡◌, true, ◌&&◌, List, [], ◌⊎◌, ℕ, ◌≤◌, ◌<◌, length, take, drop, if◌then◌else◌}
 use Rattle.octets.specs.Octets.{put}
-use Rattle.octets.specs.Scan.{if◌then◌else◌}
 use Rattle.groups.specs.Groups.{commit_length, listed}
 use Rattle.frame.specs.Frame.{read_body, token_of, commit_of, value_of}
 use Rattle.frame.specs.declared.Body.TheVariants as body

@@ -1,6 +1,5 @@
 -- The writer: from a frame's parts, or from a record; what it answers and what it leaves of the lent buffer.
-use Rattle.std.specs.Prelude.{◌≡◌, List, ℕ, ◌≤◌, length, take}
-use Rattle.octets.specs.Scan.{if◌then◌else◌}
+use Rattle.std.specs.Prelude.{◌≡◌, List, ℕ, ◌≤◌, length, take, if◌then◌else◌}
 use Rattle.groups.specs.Groups.{width, commit_length}
 use Rattle.frame.specs.Writing.{Drawn, Outside, draw_commit, draw_confirm, parts_body, written, leaves}
 use Rattle.frame.specs.declared.Written.{Written}
