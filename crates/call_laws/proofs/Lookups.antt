@@ -32,7 +32,7 @@ use Rattle.calls.specs.Calls.{due_slot, expires}
 use Rattle.lookups.specs.declared.Asked.TheVariants as asked
 use Rattle.lookups.specs.Lookups.{asked_returned, later, no_deadline, peer_left, next_deadline, asks_deadline, offset_by, asks_offset}
 use Rattle.lookups.proofs.Times.{peer-before, peer-reached, peer-most, peer-none, Idle, idle-left, idle-not-due, Least, nowhere, here, least-is, least-low, least-all}
-use Rattle.call_laws.specs.Causes.{first_cause, unlike, distinct, absent, clock_causes, find_causes}
+use Rattle.call_laws.specs.Causes.{first_cause, rising, absent, clock_causes, find_causes}
 use Rattle.call_laws.proofs.Ends.{Came, came, unsound, unusable, lacks, has, look-found}
 use Rattle.call_laws.proofs.Refuses.{Iff, Exact, exact, served, expire-refuses}
 
@@ -48,12 +48,12 @@ next-deadline-refuses t time = go (sound t)
     go true = refl
     go false = refl
 
-clock-distinct : (t : List ℕ) → distinct (clock_causes t) ≡ true
-unfolding distinct unlike clock_causes
-clock-distinct t = refl
+clock-rises : (t : List ℕ) → rising 0 (clock_causes t) ≡ true
+unfolding rising clock_causes
+clock-rises t = refl
 
 pub next-deadline-exact : (t : List ℕ) (time : ℕ) → Exact (asked_returned (asks_deadline t time)) (clock_causes t)
-next-deadline-exact t time = exact asked_returned asked.Refused _ (clock_causes t) _ (λ c. refl) refl (clock-distinct t) (next-deadline-refuses t time)
+next-deadline-exact t time = exact asked_returned asked.Refused _ (clock_causes t) _ (λ c. refl) refl (clock-rises t) (next-deadline-refuses t time)
 
 find-refuses-by : (t a : List ℕ) (E : Entry) → Came t a E
     → offset_by E (width_of t) ≡ first_cause asked.Refused (find_causes t a) (offset_by (found_entry (finds (decode_table t) a)) (width_of t))
@@ -67,9 +67,9 @@ pub find-refuses : (t a : List ℕ) → asks_offset t a ≡ first_cause asked.Re
 unfolding asks_offset
 find-refuses t a = find-refuses-by t a (entry t a) (came t a)
 
-find-distinct : (t a : List ℕ) → distinct (find_causes t a) ≡ true
-unfolding distinct unlike find_causes
-find-distinct t a = refl
+find-rises : (t a : List ℕ) → rising 0 (find_causes t a) ≡ true
+unfolding rising find_causes
+find-rises t a = refl
 
 offset-answers : (f : Found) (W : ℕ) → asked_returned (offset_by (found_entry f) W) ≡ 0
 unfolding offset_by found_entry
@@ -78,7 +78,7 @@ offset-answers found.Nothing W = refl
 
 pub find-exact : (t a : List ℕ) → Exact (asked_returned (asks_offset t a)) (find_causes t a)
 find-exact t a =
-    exact asked_returned asked.Refused _ (find_causes t a) _ (λ c. refl) (offset-answers (finds (decode_table t) a) (width_of t)) (find-distinct t a) (find-refuses t a)
+    exact asked_returned asked.Refused _ (find_causes t a) _ (λ c. refl) (offset-answers (finds (decode_table t) a) (width_of t)) (find-rises t a) (find-refuses t a)
 
 -- ---- the next deadline against the clock call
 

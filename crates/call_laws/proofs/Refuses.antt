@@ -2,16 +2,16 @@
 use mathlib.Core.Path.{◌≡◌, refl, sym, ap, ◌∙◌, subst}
 use mathlib.Core.Bool.{Bool, true, false, not, ◌&&◌}
 use mathlib.Core.List.{List, [], ◌∷◌, ◌++◌}
-use Prim.Native.Nat.{ℕ}
+use Prim.Native.Nat.{ℕ, ◌≤◌, ◌<◌}
 use native.Mathlib.Omega.{arith}
 use lib.Dec.{eqb, ltb}
 use lib.ListN.{length}
-use borrow.Author.Tests.{eq-eqb, not-true}
+use borrow.Author.Tests.{eq-eqb, ne_eqb, ltb-true, not-true}
 use Rattle.std.specs.Prelude.{if◌then◌else◌}
 use Rattle.octets.specs.Octets.{put}
 use Rattle.octets.specs.declared.Found.{Found}
 use Rattle.octets.specs.declared.Found.TheVariants as found
-use Rattle.octets.proofs.Scan.{clash, and_left, and_right}
+use Rattle.octets.proofs.Scan.{clash, and_left, and_right, and_both}
 use Rattle.groups.specs.Groups.{fresh_ok}
 use Rattle.frame.specs.Writing.{Drawn, Octets, Outside, parts_body, written, leaves}
 use Rattle.frame.specs.declared.Written.TheVariants as written_is
@@ -41,7 +41,7 @@ use Rattle.moves.specs.declared.Direction.{Direction}
 use Rattle.moves.specs.declared.Direction.TheVariants.{Forward, Back}
 use Rattle.moves.specs.Moves.{source_form, target_form, moved, is_of, hindered, hindrance, fitting, Moved, refuse_move, moves}
 use Rattle.calls.specs.Calls.{full, initializes, admit_start, start_turn, start_step, initiates, kill_turn, kill_step, kills, admit_frame, frame_turn, frame_step, receives, due_slot, expires_by, expires}
-use Rattle.call_laws.specs.Causes.{Cause, first_cause, no_cause, unlike, distinct, absent, set_up_causes, start_causes, kill_causes, frame_names, frame_causes, clock_causes, outside, longer, parts_causes, record_causes, move_causes}
+use Rattle.call_laws.specs.Causes.{Cause, first_cause, no_cause, rising, unlike, distinct, absent, set_up_causes, start_causes, kill_causes, frame_names, frame_causes, clock_causes, outside, longer, parts_causes, record_causes, move_causes}
 use Rattle.call_laws.proofs.Ends.{Came, came, unsound, unusable, lacks, has, look-found, due-answer, refuse-outcome, go-outcome, outcome-if}
 
 -- ---- a list of causes
@@ -130,11 +130,11 @@ module _ (c : Cause) (after : List Cause) where
       go true w = record { to = λ e. absurd (apart-at (number d.why) ds (others d (ds ++ (c ∷ after)) r) e); from = λ e. absurd (clash e refl) }
       go false w = w
 
--- an answer that is the first cause's
-pub exact : {A : Type 0} (f : A → ℕ) (r : Refusal → A) (o : A) (cs : List Cause) (x : A) → ((c : Refusal) → f (r c) ≡ number c) → f o ≡ 0 → distinct cs ≡ true → x ≡ first_cause r cs o
+-- an answer that is the first cause's, of causes whose numbers differ
+pub exact-distinct : {A : Type 0} (f : A → ℕ) (r : Refusal → A) (o : A) (cs : List Cause) (x : A) → ((c : Refusal) → f (r c) ≡ number c) → f o ≡ 0 → distinct cs ≡ true → x ≡ first_cause r cs o
     → Exact (f x) cs
 unfolding first_cause
-exact f r o cs x e z w q =
+exact-distinct f r o cs x e z w q =
     record {
       each = λ before c after s.
           subst (λ (n : ℕ). Iff (n ≡ number c.why) ((no_cause before && c.holds) ≡ true)) (sym (says ∙ ap first_number s))
@@ -148,6 +148,27 @@ exact f r o cs x e z w q =
 
     says : f x ≡ first_number cs
     says = ap f q ∙ first-map f r cs o ∙ same_first cs (f o) z
+
+-- numbers that rise differ
+rising-unlike : (m n : ℕ) (cs : List Cause) → m ≤ n → rising n cs ≡ true → unlike m cs ≡ true
+unfolding rising unlike
+rising-unlike m n [] h r = refl
+rising-unlike m n (c ∷ cs) h r =
+    let l : n < number c.why = ltb-true _ _ (and_left _ _ r) in
+    and_both _ _ (ap not (ne_eqb m (number c.why) (λ e. absurd (omega (arith, e))))) (rising-unlike m (number c.why) cs (omega arith) (and_right (ltb n (number c.why)) _ r))
+
+rising-distinct : (n : ℕ) (cs : List Cause) → rising n cs ≡ true → distinct cs ≡ true
+unfolding rising distinct
+rising-distinct n [] r = refl
+rising-distinct n (c ∷ cs) r =
+    let l : n < number c.why = ltb-true _ _ (and_left _ _ r) in
+    let q : rising (number c.why) cs ≡ true = and_right (ltb n (number c.why)) _ r in
+    and_both _ _ (ap not (ne_eqb (number c.why) 0 (λ e. absurd (omega (arith, e))))) (and_both _ _ (rising-unlike (number c.why) (number c.why) cs (omega arith) q) (rising-distinct (number c.why) cs q))
+
+-- an answer that is the first cause's
+pub exact : {A : Type 0} (f : A → ℕ) (r : Refusal → A) (o : A) (cs : List Cause) (x : A) → ((c : Refusal) → f (r c) ≡ number c) → f o ≡ 0 → rising 0 cs ≡ true → x ≡ first_cause r cs o
+    → Exact (f x) cs
+exact f r o cs x e z w q = exact-distinct f r o cs x e z (rising-distinct 0 cs w) q
 
 -- ---- Set up
 
@@ -185,12 +206,12 @@ pub initiate-refuses : (t a : List ℕ) (time : ℕ) (fresh : List ℕ) → (ini
 unfolding initiates
 initiate-refuses t a time fresh = start-refuses-by t a fresh time (entry t a) (came t a)
 
-start-distinct : (t a fresh : List ℕ) → distinct (start_causes t a fresh) ≡ true
-unfolding distinct unlike start_causes
-start-distinct t a fresh = refl
+start-rises : (t a fresh : List ℕ) → rising 0 (start_causes t a fresh) ≡ true
+unfolding rising start_causes
+start-rises t a fresh = refl
 
 pub initiate-exact : (t a : List ℕ) (time : ℕ) (fresh : List ℕ) → Exact (returned (initiates t a time fresh).answer.outcome) (start_causes t a fresh)
-initiate-exact t a time fresh = exact returned outcome.Refused outcome.Done (start_causes t a fresh) _ (λ c. refl) refl (start-distinct t a fresh) (initiate-refuses t a time fresh)
+initiate-exact t a time fresh = exact returned outcome.Refused outcome.Done (start_causes t a fresh) _ (λ c. refl) refl (start-rises t a fresh) (initiate-refuses t a time fresh)
 
 -- ---- Kill
 
@@ -205,12 +226,12 @@ pub kill-refuses : (t a : List ℕ) → (kills t a).answer.outcome ≡ first_cau
 unfolding kills
 kill-refuses t a = kill-refuses-by t a (entry t a) (came t a)
 
-kill-distinct : (t a : List ℕ) → distinct (kill_causes t a) ≡ true
-unfolding distinct unlike kill_causes
-kill-distinct t a = refl
+kill-rises : (t a : List ℕ) → rising 0 (kill_causes t a) ≡ true
+unfolding rising kill_causes
+kill-rises t a = refl
 
 pub kill-exact : (t a : List ℕ) → Exact (returned (kills t a).answer.outcome) (kill_causes t a)
-kill-exact t a = exact returned outcome.Refused outcome.Done (kill_causes t a) _ (λ c. refl) refl (kill-distinct t a) (kill-refuses t a)
+kill-exact t a = exact returned outcome.Refused outcome.Done (kill_causes t a) _ (λ c. refl) refl (kill-rises t a) (kill-refuses t a)
 
 -- ---- Frame received
 
@@ -251,14 +272,14 @@ pub receive-refuses : (t a : List ℕ) (time : ℕ) (frame fresh expected : List
 unfolding receives
 receive-refuses t a time frame fresh expected verdict = frame-refuses-by t a time frame fresh expected verdict (entry t a) (came t a)
 
-frame-distinct : (t a : List ℕ) (time : ℕ) (frame fresh expected : List ℕ) (verdict : ℕ) → distinct (frame_causes t a time frame fresh expected verdict) ≡ true
-unfolding distinct unlike frame_causes
-frame-distinct t a time frame fresh expected verdict = refl
+frame-rises : (t a : List ℕ) (time : ℕ) (frame fresh expected : List ℕ) (verdict : ℕ) → rising 0 (frame_causes t a time frame fresh expected verdict) ≡ true
+unfolding rising frame_causes
+frame-rises t a time frame fresh expected verdict = refl
 
 pub receive-exact : (t a : List ℕ) (time : ℕ) (frame fresh expected : List ℕ) (verdict : ℕ)
     → Exact (returned (receives t a time frame fresh expected verdict).answer.outcome) (frame_causes t a time frame fresh expected verdict)
 receive-exact t a time frame fresh expected verdict =
-    exact returned outcome.Refused outcome.Done (frame_causes t a time frame fresh expected verdict) _ (λ c. refl) refl (frame-distinct t a time frame fresh expected verdict)
+    exact returned outcome.Refused outcome.Done (frame_causes t a time frame fresh expected verdict) _ (λ c. refl) refl (frame-rises t a time frame fresh expected verdict)
     (receive-refuses t a time frame fresh expected verdict)
 
 -- ---- Clock
@@ -282,9 +303,9 @@ expire-refuses t time = go (sound t)
     go true = serve-outcome (due_slot (decode_table t) time) t time
     go false = refl
 
-clock-distinct : (t : List ℕ) → distinct (clock_causes t) ≡ true
-unfolding distinct unlike clock_causes
-clock-distinct t = refl
+clock-rises : (t : List ℕ) → rising 0 (clock_causes t) ≡ true
+unfolding rising clock_causes
+clock-rises t = refl
 
 served-zero : (f : Found) → returned (served f) ≡ 0
 served-zero (found.At k) = refl
@@ -292,16 +313,16 @@ served-zero found.Nothing = refl
 
 pub expire-exact : (t : List ℕ) (time : ℕ) → Exact (returned (expires t time).answer.outcome) (clock_causes t)
 expire-exact t time =
-    exact returned outcome.Refused (served (due_slot (decode_table t) time)) (clock_causes t) _ (λ c. refl) (served-zero (due_slot (decode_table t) time)) (clock-distinct t) (expire-refuses t time)
+    exact returned outcome.Refused (served (due_slot (decode_table t) time)) (clock_causes t) _ (λ c. refl) (served-zero (due_slot (decode_table t) time)) (clock-rises t) (expire-refuses t time)
 
 -- ---- Set up
 
-set-up-distinct : (f : Form) (t own : List ℕ) (s : Settings) → distinct (set_up_causes f t own s) ≡ true
-unfolding distinct unlike set_up_causes
-set-up-distinct f t own s = refl
+set-up-rises : (f : Form) (t own : List ℕ) (s : Settings) → rising 0 (set_up_causes f t own s) ≡ true
+unfolding rising set_up_causes
+set-up-rises f t own s = refl
 
 pub initialize-exact : (f : Form) (t own : List ℕ) (s : Settings) → Exact (returned (initializes f t own s).answer.outcome) (set_up_causes f t own s)
-initialize-exact f t own s = exact returned outcome.Refused outcome.Done (set_up_causes f t own s) _ (λ c. refl) refl (set-up-distinct f t own s) (initialize-refuses f t own s)
+initialize-exact f t own s = exact returned outcome.Refused outcome.Done (set_up_causes f t own s) _ (λ c. refl) refl (set-up-rises f t own s) (initialize-refuses f t own s)
 
 -- ---- the writers
 
@@ -336,15 +357,15 @@ write-parts-refuses t sequence status group counter token rest out = go (sound t
     go true d = draws-answer d out
     go false d = refl
 
-parts-distinct : (t : List ℕ) (d : Drawn) (out : List ℕ) → distinct (parts_causes t d out) ≡ true
-unfolding distinct unlike parts_causes
-parts-distinct t d out = refl
+parts-rises : (t : List ℕ) (d : Drawn) (out : List ℕ) → rising 0 (parts_causes t d out) ≡ true
+unfolding rising parts_causes
+parts-rises t d out = refl
 
 pub write-parts-exact : (t : List ℕ) (sequence status group counter : ℕ) (token rest out : List ℕ)
     → Exact (returned_by (writes_parts t sequence status group counter token rest out).answer)
     (parts_causes t (parts_body (groups_of (decode_table t).header) sequence status group counter token rest) out)
 write-parts-exact t sequence status group counter token rest out =
-    exact returned_by wrote.Refused _ _ _ (λ c. refl) refl (parts-distinct t _ out) (write-parts-refuses t sequence status group counter token rest out)
+    exact returned_by wrote.Refused _ _ _ (λ c. refl) refl (parts-rises t _ out) (write-parts-refuses t sequence status group counter token rest out)
 
 -- what is drawn for an address: its record's frame
 abbrev pub drawn_record : List ℕ → List ℕ → ℕ → List ℕ → Drawn
@@ -369,13 +390,13 @@ pub write-record-refuses : (t a : List ℕ) (sequence : ℕ) (value out : List �
 unfolding writes_record
 write-record-refuses t a sequence value out = write-record-by t a sequence value out (entry t a) (came t a)
 
-record-distinct : (t a : List ℕ) (d : Drawn) (out : List ℕ) → distinct (record_causes t a d out) ≡ true
-unfolding distinct unlike record_causes
-record-distinct t a d out = refl
+record-rises : (t a : List ℕ) (d : Drawn) (out : List ℕ) → rising 0 (record_causes t a d out) ≡ true
+unfolding rising record_causes
+record-rises t a d out = refl
 
 pub write-record-exact : (t a : List ℕ) (sequence : ℕ) (value out : List ℕ)
     → Exact (returned_by (writes_record t a sequence value out).answer) (record_causes t a (drawn_record t a sequence value) out)
-write-record-exact t a sequence value out = exact returned_by wrote.Refused _ _ _ (λ c. refl) refl (record-distinct t a _ out) (write-record-refuses t a sequence value out)
+write-record-exact t a sequence value out = exact returned_by wrote.Refused _ _ _ (λ c. refl) refl (record-rises t a _ out) (write-record-refuses t a sequence value out)
 
 -- ---- A REFUSAL leaves every lent octet
 
@@ -477,7 +498,7 @@ move-distinct Back source target = refl
 
 pub move-exact : (d : Direction) (source target : List ℕ) → Exact (returned (moves d source target).answer) (move_causes d source target)
 move-exact d source target =
-    exact returned outcome.Refused outcome.Done (move_causes d source target) _ (λ c. refl) refl (move-distinct d source target) (move-refuses d source target)
+    exact-distinct returned outcome.Refused outcome.Done (move_causes d source target) _ (λ c. refl) refl (move-distinct d source target) (move-refuses d source target)
 
 -- one that refuses leaves its target
 pub move-refused : (d : Direction) (source target : List ℕ) (c : Refusal) → (moves d source target).answer ≡ outcome.Refused c → (moves d source target).target ≡ target

@@ -37,6 +37,11 @@ unfoldable pub no_cause : List Cause → Bool
 no_cause [] = true
 no_cause (c ∷ cs) = not c.holds && no_cause cs
 
+-- the numbers rise, from above n
+unfoldable pub rising : ℕ → List Cause → Bool
+rising n [] = true
+rising n (c ∷ cs) = ltb n (number c.why) && rising (number c.why) cs
+
 -- the number n is none of theirs
 unfoldable pub unlike : ℕ → List Cause → Bool
 unlike n [] = true

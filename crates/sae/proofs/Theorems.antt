@@ -9,7 +9,6 @@ use lib.ListN.{length}
 use Rattle.std.specs.Prelude.{if◌then◌else◌}
 use Rattle.octets.specs.declared.Found.{Found}
 use Rattle.octets.specs.declared.Found.TheVariants as found
-use Rattle.record.specs.declared.Settings.{Settings}
 use Rattle.record.specs.Layout.{groups_of}
 use Rattle.record.specs.SettingsOctets.{settings_of, reserved_zero}
 use Rattle.rules.specs.Book.{◌is◌, Step}

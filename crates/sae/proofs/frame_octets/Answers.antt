@@ -1,7 +1,6 @@
 -- `sae::frame_octets` meets its contract: each return by its law of Laws.
 use Rattle.sae.proofs.Laws.{frame-laid}
 use mathlib.Core.Path.{refl}
-use borrow.Author.Rules.{rules}
 use Rattle.sae.proofs.frame_octets.Goals as goal
 
 pub returns : goal.returns

@@ -1,6 +1,5 @@
 -- `sae::frames_octets` meets its contract: each return by its law of Laws.
 use Rattle.sae.proofs.Laws.{frames-none, frames-one, frames-two}
-use borrow.Author.Rules.{rules}
 use Rattle.sae.proofs.frames_octets.Goals as goal
 
 pub returns-in-None : goal.returns-in-None

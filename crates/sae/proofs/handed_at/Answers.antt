@@ -1,6 +1,5 @@
 -- `sae::handed_at` meets its contract: each return by its law of Laws.
 use Rattle.sae.proofs.Laws.{handed-token, handed-behind, handed-not}
-use borrow.Author.Rules.{rules}
 use Rattle.sae.proofs.handed_at.Goals as goal
 
 pub returns-then-has_token : goal.returns-then-has_token

@@ -1,7 +1,6 @@
 -- `sae::handed_length` meets its contract: each return by its law of Laws.
 use native.Mathlib.Omega.{arith}
 use Rattle.sae.proofs.Laws.{length-behind, length-token, behind-short}
-use borrow.Author.Rules.{rules}
 use Rattle.sae.proofs.handed_length.Goals as goal
 
 pub overflow_cast-result : goal.overflow_cast-result

@@ -1,6 +1,5 @@
 -- `sae::initialize_from` meets its contract: each return by its law of Laws.
 use Rattle.sae.proofs.Laws.{from-reserved, from-settings}
-use borrow.Author.Rules.{rules}
 use Rattle.std.proofs.Common.{ap}
 use Rattle.std.specs.Prelude.{not}
 use Rattle.sae.proofs.initialize_from.Goals as goal

@@ -1,7 +1,6 @@
 -- `sae::parts_octets` meets its contract: each return by its law of Laws.
 use Rattle.sae.proofs.Laws.{parts-laid}
 use mathlib.Core.Path.{refl}
-use borrow.Author.Rules.{rules}
 use Rattle.sae.proofs.parts_octets.Goals as goal
 
 pub returns : goal.returns

@@ -1,6 +1,5 @@
 -- `sae::reply` meets its contract: each return by its law of Laws.
 use Rattle.sae.proofs.Laws.{left-refused, left-answered}
-use borrow.Author.Rules.{rules}
 use Rattle.sae.proofs.reply.Goals as goal
 
 pub returns-then-is_refused : goal.returns-then-is_refused

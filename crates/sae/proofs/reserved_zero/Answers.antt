@@ -1,6 +1,5 @@
 -- `sae::reserved_zero` meets its contract: each return by its law of Laws.
 use Rattle.record.specs.SettingsOctets.{reserved_zero}
-use borrow.Author.Rules.{rules}
 use Rattle.sae.proofs.reserved_zero.Goals as goal
 
 pub returns : goal.returns

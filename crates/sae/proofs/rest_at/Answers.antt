@@ -1,6 +1,5 @@
 -- `sae::rest_at` meets its contract: each return by its law of Laws.
 use Rattle.sae.proofs.Laws.{rest-scalar, rest-value, rest-not}
-use borrow.Author.Rules.{rules}
 use Rattle.sae.proofs.rest_at.Goals as goal
 
 pub returns-then-listed : goal.returns-then-listed

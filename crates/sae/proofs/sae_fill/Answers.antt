@@ -1,6 +1,5 @@
 -- `sae::sae_fill` meets its contract: each return by its law of Laws.
 use Rattle.sae.proofs.Laws.{fill_done, fill-not}
-use borrow.Author.Rules.{rules}
 use Rattle.sae.proofs.sae_fill.Goals as goal
 
 pub returns-then-fill_good : goal.returns-then-fill_good

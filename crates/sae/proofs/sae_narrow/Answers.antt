@@ -1,6 +1,5 @@
 -- `sae::sae_narrow` meets its contract by its law of Laws.
 use Rattle.sae.proofs.Laws.{moved-law}
-use borrow.Author.Rules.{rules}
 use Rattle.sae.proofs.sae_narrow.Goals as goal
 
 pub returns : goal.returns

@@ -1,6 +1,5 @@
 -- `sae::sae_next_deadline` meets its contract: each return by its law of Laws.
 use Rattle.sae.proofs.Laws.{asked-replied}
-use borrow.Author.Rules.{rules}
 use Rattle.sae.proofs.sae_next_deadline.Goals as goal
 
 pub returns : goal.returns

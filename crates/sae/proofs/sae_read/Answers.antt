@@ -3,7 +3,6 @@ use Rattle.sae.proofs.Laws.{read-unsound, read_length, read-malformed, read-part
 use Rattle.table.proofs.Laws.{looked-sound, looked-header}
 use Rattle.writer.proofs.Laws.{share, listed-are}
 use mathlib.Core.List.{[]}
-use borrow.Author.Rules.{rules}
 use Rattle.std.proofs.Common.{ap}
 use Rattle.std.specs.Prelude.{not}
 use Rattle.sae.proofs.sae_read.Goals as goal

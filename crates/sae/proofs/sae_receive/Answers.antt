@@ -1,6 +1,5 @@
 -- `sae::sae_receive` meets its contract: each return by its law of Laws.
 use Rattle.sae.proofs.Laws.{replied}
-use borrow.Author.Rules.{rules}
 use Rattle.sae.proofs.sae_receive.Goals as goal
 
 pub returns : goal.returns

@@ -1,6 +1,5 @@
 -- `sae::sae_widen` meets its contract by its law of Laws.
 use Rattle.sae.proofs.Laws.{moved-law}
-use borrow.Author.Rules.{rules}
 use Rattle.sae.proofs.sae_widen.Goals as goal
 
 pub returns : goal.returns

@@ -1,6 +1,5 @@
 -- `sae::sae_write_record` meets its contract: each return by its law of Laws.
 use Rattle.sae.proofs.Laws.{counted-record, wrote-replied}
-use borrow.Author.Rules.{rules}
 use Rattle.sae.proofs.sae_write_record.Goals as goal
 
 pub wrote_reply-requires : goal.wrote_reply-requires

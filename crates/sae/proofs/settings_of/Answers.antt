@@ -1,6 +1,5 @@
 -- `sae::settings_of` meets its contract: each return by its law of Laws.
 use Rattle.sae.proofs.Laws.{settings-are}
-use borrow.Author.Rules.{rules}
 use Rattle.sae.proofs.settings_of.Goals as goal
 
 pub returns : goal.returns

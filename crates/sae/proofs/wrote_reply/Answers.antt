@@ -1,6 +1,5 @@
 -- `sae::wrote_reply` meets its contract: each return by its law of Laws.
 use native.Mathlib.Omega.{arith}
-use borrow.Author.Rules.{rules}
 use Rattle.sae.proofs.wrote_reply.Goals as goal
 
 pub overflow_cast-written : goal.overflow_cast-written
