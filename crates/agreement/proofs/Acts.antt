@@ -23,7 +23,7 @@ use Rattle.rules.specs.Book.{◌is◌, ◌isnt◌, supersede}
 use Rattle.agreement.specs.Calls.{Call}
 use Rattle.agreement.specs.Story.{stock_in, some_frame, is_confirm, is_first_confirm, is_accepted}
 use Rattle.agreement.specs.Sent.{Among, only, first, second}
-use Rattle.agreement.proofs.Rules.{SameRun, SameLink, Afresh, Hears, Verified, Does, quiet, informs, starts, switches, forms-fresh, forms-own, repeats, repeats-both, repeats-confirm, accepts, abandons, ends, answers}
+use Rattle.agreement.proofs.Rules.{SameRun, SameLink, Afresh, Hears, Verified, Does, quiet, informs, starts, switches, forms_fresh, forms_own, repeats, repeats_both, repeats_confirm, accepts, abandons, ends, answers}
 
 -- ---- what a record is to the protocol
 
@@ -53,8 +53,8 @@ view_link l =
 unfoldable pub view : Peer → model.Peer
 view p = record { run = view_run p.run; link = view_link p.link }
 
-pub commit-is : (d : Commit) {g : ℕ} {o : List ℕ} → d.group ≡ g → d.octets ≡ o → d ≡ record { group = g; octets = o }
-commit-is d {g} {o} e f = ap (λ (x : ℕ). record { group = x; octets = d.octets }) e ∙ ap (λ (x : List ℕ). record { group = g; octets = x }) f
+pub commit_is : (d : Commit) {g : ℕ} {o : List ℕ} → d.group ≡ g → d.octets ≡ o → d ≡ record { group = g; octets = o }
+commit_is d {g} {o} e f = ap (λ (x : ℕ). record { group = x; octets = d.octets }) e ∙ ap (λ (x : List ℕ). record { group = g; octets = x }) f
 
 view-nothing : (r : Run) → r.state ≡ 0 → view_run r ≡ nothing
 unfolding view_run
@@ -105,8 +105,8 @@ peer-is {r} {s} {k} {l} e f = ap (λ (x : model.Run). record { run = x; link = k
 
 -- a Confirm was made over the pair of the run left, or with counter 65,535 over the link's
 pub data Over (q : Peer) (x : Frame) (e : Act) : Type 0 where
-  over-run : eqb x.counter 65535 ≡ false → q.run.state ≡ 2 → SendsConfirm (own_commit q) (peer_commit q) e → Over q x e
-  over-link : eqb x.counter 65535 ≡ true → q.link.finished isnt 0 ≡ true → SendsConfirm (link_own q) (link_peer q) e → Over q x e
+  over_run : eqb x.counter 65535 ≡ false → q.run.state ≡ 2 → SendsConfirm (own_commit q) (peer_commit q) e → Over q x e
+  over_link : eqb x.counter 65535 ≡ true → q.link.finished isnt 0 ≡ true → SendsConfirm (link_own q) (link_peer q) e → Over q x e
 
 pub record Forming (gs : List ℕ) (c : Call) (o : Step) (d q : Commit) : Type 0 where
   pub hears : Hears gs c q.group q.octets
@@ -147,10 +147,10 @@ used-is : (gs : List ℕ) (c : Call) (g : ℕ) (own : List ℕ) (d : Commit) →
 used-is gs c g own d A e = (A.some, ap (λ (x : List ℕ). record { group = g; octets = x }) (sym A.stock) ∙ sym e)
 
 own_is : (q : Peer) {g : ℕ} {o : List ℕ} → q.run.group ≡ g → q.run.own ≡ o → own_commit q ≡ record { group = g; octets = o }
-own_is q e f = commit-is (own_commit q) e f
+own_is q e f = commit_is (own_commit q) e f
 
 peer-commit-is : (q : Peer) {g : ℕ} {o : List ℕ} → q.run.group ≡ g → q.run.peer ≡ o → peer_commit q ≡ record { group = g; octets = o }
-peer-commit-is q e f = commit-is (peer_commit q) e f
+peer-commit-is q e f = commit_is (peer_commit q) e f
 
 small-counter : (n m limit : ℕ) → n ≡ m + 1 → m ≤ limit → limit + 1 < 256 → eqb (n + 1) 65535 ≡ false
 small-counter n m limit e l k = ne_eqb (n + 1) 65535 (λ z. omega arith)
@@ -204,7 +204,7 @@ module _ (gs : List ℕ) (c : Call) where
       confirms = among_one (λ x. is_confirm x ≡ true → Over q x _) (λ i. absurd (clash i refl));
     },
   )
-  did limit low p K (forms-fresh {q} {g} {own} {theirs} n s A H C k) = (
+  did limit low p K (forms_fresh {q} {g} {own} {theirs} n s A H C k) = (
     form_fresh (record { group = g; octets = own }) (record { group = g; octets = theirs }),
     record {
       moves = peer-is (sym (view-confirmed q.run C.state C.group C.own C.peer)) (sym (ap view_link k ∙ view-supersede p.link));
@@ -220,14 +220,14 @@ module _ (gs : List ℕ) (c : Call) where
       accepts = λ d q u. absurd u;
       commits = λ x m i j. own_is q C.group C.own;
       confirms = among_two (λ x. is_confirm x ≡ true → Over q x (form_fresh (record { group = g; octets = own }) (record { group = g; octets = theirs })))
-          (λ i. absurd (clash i refl)) (λ i. over-run refl C.state (own_is q C.group C.own, peer-commit-is q C.group C.peer));
+          (λ i. absurd (clash i refl)) (λ i. over_run refl C.state (own_is q C.group C.own, peer-commit-is q C.group C.peer));
     },
   )
     where
       unpaired : (p.run.state ≡ 0) ⊎ (p.run.state ≡ 1) → Unpaired (view_run p.run)
       unpaired (inl e) = rw (view-nothing p.run e) tt
       unpaired (inr e) = rw (view-committed p.run e refl refl) tt
-  did limit low p K (forms-own {q} {theirs} n s H C k) = (
+  did limit low p K (forms_own {q} {theirs} n s H C k) = (
     form_own (own_commit p) (record { group = p.run.group; octets = theirs }),
     record {
       moves = peer-is (sym (view-confirmed q.run C.state C.group C.own C.peer)) (sym (ap view_link k ∙ view-supersede p.link));
@@ -244,7 +244,7 @@ module _ (gs : List ℕ) (c : Call) where
       commits = among_one (λ x. is_confirm x ≡ false → eqb x.status 0 ≡ true → SendsCommit (own_commit q) (form_own (own_commit p) (record { group = p.run.group; octets = theirs })))
           (λ i j. absurd (clash refl i));
       confirms = among_one (λ x. is_confirm x ≡ true → Over q x (form_own (own_commit p) (record { group = p.run.group; octets = theirs })))
-          (λ i. over-run refl C.state (own_is q C.group C.own, peer-commit-is q C.group C.peer));
+          (λ i. over_run refl C.state (own_is q C.group C.own, peer-commit-is q C.group C.peer));
     },
   )
   did limit low p K (repeats {q} n s m C k) = (
@@ -259,7 +259,7 @@ module _ (gs : List ℕ) (c : Call) where
       confirms = among_one (λ x. is_confirm x ≡ true → Over q x (send_commit (own_commit p))) (λ i. absurd (clash i refl));
     },
   )
-  did limit low p K (repeats-both {q} n s m C k) = (
+  did limit low p K (repeats_both {q} n s m C k) = (
     send_both (own_commit p) (peer_commit p),
     record {
       moves = peer-is (view-confirmed p.run s refl refl refl ∙ sym (view-confirmed q.run C.state C.group C.own C.peer)) (ap view_link (sym k));
@@ -269,10 +269,10 @@ module _ (gs : List ℕ) (c : Call) where
       accepts = λ d q u. absurd u;
       commits = λ x m i j. own_is q C.group C.own;
       confirms = among_two (λ x. is_confirm x ≡ true → Over q x (send_both (own_commit p) (peer_commit p)))
-          (λ i. absurd (clash i refl)) (λ i. over-run (small-counter _ _ limit (K s) m low) C.state (own_is q C.group C.own, peer-commit-is q C.group C.peer));
+          (λ i. absurd (clash i refl)) (λ i. over_run (small-counter _ _ limit (K s) m low) C.state (own_is q C.group C.own, peer-commit-is q C.group C.peer));
     },
   )
-  did limit low p K (repeats-confirm {q} n s m C k) = (
+  did limit low p K (repeats_confirm {q} n s m C k) = (
     send_confirm (own_commit p) (peer_commit p),
     record {
       moves = peer-is (view-confirmed p.run s refl refl refl ∙ sym (view-confirmed q.run C.state C.group C.own C.peer)) (ap view_link (sym k));
@@ -282,7 +282,7 @@ module _ (gs : List ℕ) (c : Call) where
       accepts = λ d q u. absurd u;
       commits = among_one (λ x. is_confirm x ≡ false → eqb x.status 0 ≡ true → SendsCommit (own_commit q) (send_confirm (own_commit p) (peer_commit p))) (λ i j. absurd (clash refl i));
       confirms = among_one (λ x. is_confirm x ≡ true → Over q x (send_confirm (own_commit p) (peer_commit p)))
-          (λ i. over-run (small-counter _ _ limit (K s) m low) C.state (own_is q C.group C.own, peer-commit-is q C.group C.peer));
+          (λ i. over_run (small-counter _ _ limit (K s) m low) C.state (own_is q C.group C.own, peer-commit-is q C.group C.peer));
     },
   )
   did limit low p K (accepts {q} n s v k i j g x y) = (
@@ -331,6 +331,6 @@ module _ (gs : List ℕ) (c : Call) where
       accepts = λ d q u. absurd u;
       commits = among_one (λ x. is_confirm x ≡ false → eqb x.status 0 ≡ true → SendsCommit (own_commit q) (send_confirm (link_own p) (link_peer p))) (λ i j. absurd (clash refl i));
       confirms = among_one (λ x. is_confirm x ≡ true → Over q x (send_confirm (link_own p) (link_peer p)))
-          (λ i. over-link refl (rw E.finished f) (commit-is (link_own q) E.group E.own, commit-is (link_peer q) E.group E.peer));
+          (λ i. over_link refl (rw E.finished f) (commit_is (link_own q) E.group E.own, commit_is (link_peer q) E.group E.peer));
     },
   )

@@ -26,7 +26,7 @@ use Rattle.agreement.specs.Sent.{Among}
 use Rattle.agreement.proofs.Rules.{Hears, Verified, verified}
 use Rattle.agreement.proofs.Shows.{RunShows, no-run, unpaired, paired, Shows, shows-state, shows-whole, zero-two, one-two}
 use Rattle.agreement.proofs.Ruled.{no-run-state}
-use Rattle.agreement.proofs.Engine.{Told, a-start, a-frame, a-clock, Ends, idles, goes_on, sets-up, frees, steps, same-look}
+use Rattle.agreement.proofs.Engine.{Told, a_start, a_frame, a_clock, Ends, idles, goes_on, sets_up, frees, steps, same-look}
 use Rattle.agreement.proofs.History.{look-same-address}
 use Rattle.agreement.proofs.Acts.{own_commit, peer_commit, view, view_run, view_link, Over, Did, did}
 
@@ -102,9 +102,9 @@ ended-deed gs c d r u b p q e f = record {
 }
 
 came_from : {a b : List ℕ} {c : Call} → Told a c → is_frame c ≡ true → same_address a b ≡ true → From b c
-came_from a-start f e = absurd (clash f refl)
-came_from a-frame f e = from e
-came_from a-clock f e = absurd (clash f refl)
+came_from a_start f e = absurd (clash f refl)
+came_from a_frame f e = from e
+came_from a_clock f e = absurd (clash f refl)
 
 verified-frame : {gs : List ℕ} {c : Call} → Verified gs c → is_frame c ≡ true
 verified-frame (verified e) = refl
@@ -178,7 +178,7 @@ module _ (t : List ℕ) where
   deed {c} b s (idles d e) S =
       (idle, deed-at refl refl refl (ap (λ (x : List ℕ). look (decode_table x) b) e) (apart-deed (groups_in t) c (done t c) _ _ b _ (λ k a. clash k d)))
   deed {c} b s (goes_on d U) S = (idle, deed-at refl refl refl (same-look t _ U b) (apart-deed (groups_in t) c (done t c) _ _ b _ (λ k a. clash k d)))
-  deed b s (sets-up d f y n i) S = (end_both, ended-deed _ _ _ _ _ b _ _ (n b) f)
+  deed b s (sets_up d f y n i) S = (end_both, ended-deed _ _ _ _ _ b _ _ (n b) f)
   deed b s (frees {a} d M) S = go (same_address a b) refl
     where
       go : (x : Bool) → same_address a b ≡ x → (e : Act) × DeedOf (kill a) b e

@@ -20,7 +20,7 @@ use Rattle.call_laws.proofs.Good as good
 use Rattle.agreement.specs.Calls.{Entry, AllHanded, table_of}
 use Rattle.agreement.specs.Story.{Pair, exchanged, story_of}
 use Rattle.agreement.specs.Story as story
-use Rattle.agreement.specs.Statement.{run, Premises, Says, no-link, a-link, Formed, Demand3}
+use Rattle.agreement.specs.Statement.{run, Premises, Says, no-link, a_link, Formed, Demand3}
 use Rattle.agreement.specs.Needed.{Needed, Stronger}
 use Rattle.agreement.proofs.Engine.{Lawful}
 use Rattle.agreement.proofs.Shows.{shows-limit, shows-counts}
@@ -40,7 +40,7 @@ bit-isnt false = refl
 says-view : {l : story.Link} {k : Link} → Says l k → view_link k ≡ link_view l
 unfolding view_link no_link
 says-view no-link = refl
-says-view (a-link {mark = m} e f a b c) = rw (e, f, a, b, c, bit-isnt m)
+says-view (a_link {mark = m} e f a b c) = rw (e, f, a, b, c, bit-isnt m)
 
 view-link : (p : Peer) → (view p).link ≡ view_link p.link
 unfolding view
@@ -65,11 +65,11 @@ module _ (L : Lawful) (own : Side → List ℕ) {h : List Entry} (H : AllHanded 
 pub lawful : Lawful
 lawful =
     record {
-      initiate-good = good.initiate-good;
-      kill-good = good.kill-good;
-      receive-good = good.receive-good;
-      expire-good = good.expire-good;
-      expire-address = good.expire-address;
+      initiate_good = good.initiate_good;
+      kill_good = good.kill_good;
+      receive_good = good.receive_good;
+      expire_good = good.expire_good;
+      expire_address = good.expire_address;
     }
 
 -- the scope's premises are more than what is needed
@@ -116,8 +116,8 @@ record Linked (l : story.Link) (k : Link) : Type 0 where
 clear-link : {l : story.Link} {k : Link} → Says l k → k.finished ≡ 1 → k.superseded ≡ 0 → Linked l k
 unfolding no_link
 clear-link no-link e f = let z : ◌≡◌ {A = ℕ} 0 1 = e in absurd (omega arith)
-clear-link (a-link {p = p} {mark = true} e g a b c) h f = let z : ◌≡◌ {A = ℕ} 1 0 = sym g ∙ f in absurd (omega arith)
-clear-link (a-link {p = p} {mark = false} e g a b c) h f = record { pair = p; story = refl; group = a; own = b; peer = c }
+clear-link (a_link {p = p} {mark = true} e g a b c) h f = let z : ◌≡◌ {A = ℕ} 1 0 = sym g ∙ f in absurd (omega arith)
+clear-link (a_link {p = p} {mark = false} e g a b c) h f = record { pair = p; story = refl; group = a; own = b; peer = c }
 
 abbrev link_in : List Entry → Side → List ℕ → Link
 link_in h X a = (look (decode_table (table_of h X)) a).link

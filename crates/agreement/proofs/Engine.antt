@@ -59,7 +59,7 @@ use Rattle.moves.specs.declared.Direction.{Direction}
 use Rattle.moves.specs.Moves.{target_form, resized, moved, SameContents, Moved, moves}
 use Rattle.moves.proofs.Laws.{moved_same, Passed, done-passed, passed-done, done-movable}
 use Rattle.call_laws.proofs.Ends.{set-up-leaves}
-use Rattle.agreement.specs.Calls.{Writing, Call, initialize, initiate, kill, receive, expire, write, fill, move, Octets, CallHanded, an-initialize, an-initiate, a-kill, a-receive, an-expire, a_write, a-fill, a_move, left, is_done, done, table_after}
+use Rattle.agreement.specs.Calls.{Writing, Call, initialize, initiate, kill, receive, expire, write, fill, move, Octets, CallHanded, an_initialize, an_initiate, a_kill, a_receive, an_expire, a_write, a_fill, a_move, left, is_done, done, table_after}
 use Rattle.agreement.specs.Story.{stock_of, stock_in, groups_in, limit_in}
 use Rattle.agreement.proofs.Rules.{Whole, Afresh, Verified, verified, Does}
 use Rattle.agreement.proofs.Ruled.{State, Heard, Stocked, frame-does, clock-does, start-does}
@@ -68,15 +68,15 @@ use Rattle.agreement.proofs.Stock.{sound-listing, same-stock, stocked}
 -- ---- what the engine's proofs give: each call's step leaves a record of the right form
 
 pub record Lawful : Type 0 where
-  pub initiate-good : (t a : List ℕ) (time : ℕ) (fresh : List ℕ) (f : Found) → Bytes t → length a ≡ 6 → Bytes a → time < 2 ^ 32 → Bytes fresh
+  pub initiate_good : (t a : List ℕ) (time : ℕ) (fresh : List ℕ) (f : Found) → Bytes t → length a ≡ 6 → Bytes a → time < 2 ^ 32 → Bytes fresh
       → start_turn (entry t a) t fresh ≡ Go f → Good t a f (start_step (decode_table t) f a time fresh)
-  pub kill-good : (t a : List ℕ) (f : Found) → Bytes t → length a ≡ 6 → Bytes a → kill_turn (entry t a) ≡ Go f → Good t a f kill_step
-  pub receive-good : (t a : List ℕ) (time : ℕ) (frame fresh expected : List ℕ) (verdict : ℕ) (f : Found) → Bytes t → length a ≡ 6 → Bytes a → time < 2 ^ 32
+  pub kill_good : (t a : List ℕ) (f : Found) → Bytes t → length a ≡ 6 → Bytes a → kill_turn (entry t a) ≡ Go f → Good t a f kill_step
+  pub receive_good : (t a : List ℕ) (time : ℕ) (frame fresh expected : List ℕ) (verdict : ℕ) (f : Found) → Bytes t → length a ≡ 6 → Bytes a → time < 2 ^ 32
       → Bytes frame → Bytes fresh → Bytes expected → verdict < 2 ^ 8
       → frame_turn (entry t a) t frame fresh expected verdict ≡ Go f → Good t a f (frame_step (decode_table t) f a time frame fresh expected verdict)
-  pub expire-good : (t : List ℕ) (time k : ℕ) → Bytes t → time < 2 ^ 32 → sound t ≡ true → due_slot (decode_table t) time ≡ found.At k
+  pub expire_good : (t : List ℕ) (time k : ℕ) → Bytes t → time < 2 ^ 32 → sound t ≡ true → due_slot (decode_table t) time ≡ found.At k
       → Good t (slot (decode_table t) k).address (found.At k) (clock_step (decode_table t) k time)
-  pub expire-address : (t : List ℕ) (time k : ℕ) → Bytes t → sound t ≡ true → due_slot (decode_table t) time ≡ found.At k
+  pub expire_address : (t : List ℕ) (time k : ℕ) → Bytes t → sound t ≡ true → due_slot (decode_table t) time ≡ found.At k
       → (length (slot (decode_table t) k).address ≡ 6) × Bytes (slot (decode_table t) k).address
 
 -- ---- who goes on
@@ -181,7 +181,7 @@ module _ (gs a : List ℕ) (time : ℕ) (frame fresh expected : List ℕ) (verdi
   heard-by : (b : Body) → read_body gs frame ≡ b → eqb (view_of b).sequence 0 ≡ false → Heard gs frame_call (message_of frame (view_of b)) (verdict is 1)
   unfolding commit_in view
   heard-by (body.Commit g n) e w = record {
-    commit = λ z l. (record { token = n; frame = refl; reads = e; stored-as = refl }, (commit-shape gs frame g n e).supported);
+    commit = λ z l. (record { token = n; frame = refl; reads = e; stored_as = refl }, (commit-shape gs frame g n e).supported);
     confirm = λ d z v. absurd (d refl);
   }
   heard-by (body.Unsupported g) e w = record { commit = λ z l. absurd (clash l refl); confirm = λ d z v. absurd (d refl) }
@@ -194,7 +194,7 @@ module _ (gs a : List ℕ) (time : ℕ) (frame fresh expected : List ℕ) (verdi
   heard-by (body.Confirm n) e w = record { commit = λ z l. absurd (clash l refl); confirm = λ d z v. is-verified n e v }
   heard-by (body.OtherConfirm x) e w = record {
     commit = λ z l. absurd (clash l refl);
-    confirm = λ d z v. absurd ((other-confirm-shape gs frame x e).not-zero z);
+    confirm = λ d z v. absurd ((other-confirm-shape gs frame x e).not_zero z);
   }
   heard-by body.Malformed e w = absurd (clash refl w)
 
@@ -229,9 +229,9 @@ clock-kind t time k W z =
 
 -- a start, a frame or a clock call about the address: its step is told
 pub data Told : List ℕ → Call → Type 0 where
-  a-start : {a : List ℕ} {time : ℕ} {fresh : List ℕ} → Told a (initiate a time fresh)
-  a-frame : {a : List ℕ} {time : ℕ} {frame fresh expected : List ℕ} {verdict : ℕ} → Told a (receive a time frame fresh expected verdict)
-  a-clock : {a : List ℕ} {time : ℕ} → Told a (expire time)
+  a_start : {a : List ℕ} {time : ℕ} {fresh : List ℕ} → Told a (initiate a time fresh)
+  a_frame : {a : List ℕ} {time : ℕ} {frame fresh expected : List ℕ} {verdict : ℕ} → Told a (receive a time frame fresh expected verdict)
+  a_clock : {a : List ℕ} {time : ℕ} → Told a (expire time)
 
 -- a step o was made at the address a of the table t, which becomes u; r is the answer
 pub record Made (t u : List ℕ) (a : List ℕ) (o : Step) (r : Answer) : Type 0 where
@@ -258,7 +258,7 @@ pub data Ends (t : List ℕ) : Call → Type 0 where
   -- a move that is done: no step, and the table after it is one of the same contents
   goes_on : {c : Call} → done t c ≡ false → SameContents t (table_after t c) → Ends t c
   -- a set up: no address has a record, and the Sync limit is what the settings say
-  sets-up : {size : ℕ} {buffer own settings : List ℕ} → done t (initialize size buffer own settings) ≡ true → (left t (initialize size buffer own settings)).answer.frames ≡ frames.None
+  sets_up : {size : ℕ} {buffer own settings : List ℕ} → done t (initialize size buffer own settings) ≡ true → (left t (initialize size buffer own settings)).answer.frames ≡ frames.None
       → Held (table_after t (initialize size buffer own settings)) → ((a : List ℕ) → look (decode_table (table_after t (initialize size buffer own settings))) a ≡ no_peer)
       → limit_in (table_after t (initialize size buffer own settings)) ≡ limit_of (settings_of settings).limit
       → Ends t (initialize size buffer own settings)
@@ -340,7 +340,7 @@ module _ (t : List ℕ) (time : ℕ) (l : Left) (q : expires t time ≡ l) where
       → (Whole (look (decode_table t) a) → State (look (decode_table t) a).run.state → Does (groups_in t) (limit_in t) (expire time) (look (decode_table t) a) o) → Ends t (expire time)
   unfolding done table_after
   clock-steps a o d m k =
-      steps {c = expire time} a o a-clock (ap (λ (x : Left). is_done x.answer.outcome) q ∙ d) (subst (λ (x : Left). Made t x.table a o x.answer) (sym q) m) k
+      steps {c = expire time} a o a_clock (ap (λ (x : Left). is_done x.answer.outcome) q ∙ d) (subst (λ (x : Left). Made t x.table a o x.answer) (sym q) m) k
 
 expires-due : (t : List ℕ) (time : ℕ) (d : Found) → sound t ≡ true → due_slot (decode_table t) time ≡ d → expires t time ≡ expires_by d t time
 unfolding expires
@@ -475,7 +475,7 @@ module _ (L : Lawful) (t : List ℕ) (H : Held t) where
       made e = rw e at (set-up-leaves size buffer own (settings_of settings))
 
       go : (z x : Bool) → reserved_zero settings ≡ z → initial_ok form (settings_of settings) own (length buffer) ≡ x → Ends t (initialize size buffer own settings)
-      go true true z e = sets-up {size = size} {buffer = buffer} {own = own} {settings = settings} (rw (z, e) (quiet-done own)) (rw (z, e) (quiet-frames own))
+      go true true z e = sets_up {size = size} {buffer = buffer} {own = own} {settings = settings} (rw (z, e) (quiet-done own)) (rw (z, e) (quiet-frames own))
           (rw (z, e, quiet-done own) (subst Held (sym (made e)) (sound-held _ (bytes-initial form (served e) (settings_of settings) own buffer fit bb)
           (initial-sound form (served e) (settings_of settings) own buffer fit e))))
           (λ a. rw (z, e, quiet-done own) (fresh-look _ a (λ k. ap (λ (u : List ℕ). slot (decode_table u) k) (made e)
@@ -489,41 +489,41 @@ module _ (L : Lawful) (t : List ℕ) (H : Held t) where
   unfolding done table_after initiates
   initiate-ends a time fresh ha ht hf =
       go (turn-ends (start_turn (entry t a) t fresh) (λ f. start_step (decode_table t) f a time fresh) t a b ha.many ha.bytes
-      (λ f e. L.initiate-good t a time fresh f b ha.many ha.bytes ht hf e))
+      (λ f e. L.initiate_good t a time fresh f b ha.many ha.bytes ht hf e))
     where
       go : Turned (start_turn (entry t a) t fresh) (λ f. start_step (decode_table t) f a time fresh) t a → Ends t (initiate a time fresh)
       go (ending.denied c e) = let r = refused-not c t _ e in idles r.0 r.1
       go (ending.done f e F) =
-          let G = L.initiate-good t a time fresh f b ha.many ha.bytes ht hf e in
+          let G = L.initiate_good t a time fresh f b ha.many ha.bytes ht hf e in
           let s = entered-sound t a f G.came in
-          steps a (start_step (decode_table t) f a time fresh) a-start (said-done _ a _ F.answer) (made_of t a _ _ s F)
+          steps a (start_step (decode_table t) f a time fresh) a_start (said-done _ a _ F.answer) (made_of t a _ _ s F)
           (λ W z. subst (λ (p : Peer). Does (groups_in t) (limit_in t) (initiate a time fresh) p (start_step (decode_table t) f a time fresh)) (entered-look t a f G.came) (start-kind t a time fresh f s e (turn-done (start_turn (entry t a) t fresh) (λ x. start_step (decode_table t) x a time fresh) t a f e F.answer)))
 
   kill-ends : (a : List ℕ) → Octets 6 a → Ends t (kill a)
   unfolding done table_after kills
-  kill-ends a ha = go (turn-ends (kill_turn (entry t a)) (λ f. kill_step) t a b ha.many ha.bytes (λ f e. L.kill-good t a f b ha.many ha.bytes e))
+  kill-ends a ha = go (turn-ends (kill_turn (entry t a)) (λ f. kill_step) t a b ha.many ha.bytes (λ f e. L.kill_good t a f b ha.many ha.bytes e))
     where
       go : Turned (kill_turn (entry t a)) (λ f. kill_step) t a → Ends t (kill a)
       go (ending.denied c e) = let r = refused-not c t _ e in idles r.0 r.1
-      go (ending.done f e F) = frees (said-done _ a _ F.answer) (made_of t a _ _ (entered-sound t a f (L.kill-good t a f b ha.many ha.bytes e).came) F)
+      go (ending.done f e F) = frees (said-done _ a _ F.answer) (made_of t a _ _ (entered-sound t a f (L.kill_good t a f b ha.many ha.bytes e).came) F)
 
   receive-ends : (a : List ℕ) (time : ℕ) (frame fresh expected : List ℕ) (verdict : ℕ) → Octets 6 a → time < 2 ^ 32 → Bytes frame → Bytes fresh → Bytes expected → verdict < 2 ^ 8
       → Ends t (receive a time frame fresh expected verdict)
   unfolding done table_after receives
   receive-ends a time frame fresh expected verdict ha ht hr hf he hv =
       go (turn-ends (frame_turn (entry t a) t frame fresh expected verdict) (λ f. frame_step (decode_table t) f a time frame fresh expected verdict) t a b ha.many ha.bytes
-      (λ f e. L.receive-good t a time frame fresh expected verdict f b ha.many ha.bytes ht hr hf he hv e))
+      (λ f e. L.receive_good t a time frame fresh expected verdict f b ha.many ha.bytes ht hr hf he hv e))
     where
       go : Turned (frame_turn (entry t a) t frame fresh expected verdict) (λ f. frame_step (decode_table t) f a time frame fresh expected verdict) t a
           → Ends t (receive a time frame fresh expected verdict)
       go (ending.denied c e) = let r = refused-not c t _ e in idles r.0 r.1
       go (ending.done f e F) =
-          let G = L.receive-good t a time frame fresh expected verdict f b ha.many ha.bytes ht hr hf he hv e in
+          let G = L.receive_good t a time frame fresh expected verdict f b ha.many ha.bytes ht hr hf he hv e in
           let s = entered-sound t a f G.came in
           let q = entered-look t a f G.came in
           let w = frame-admits (entry t a) t frame fresh expected verdict f e in
           let S = all-stocked t s (receive a time frame fresh expected verdict) w.0 in
-          steps a (frame_step (decode_table t) f a time frame fresh expected verdict) a-frame (said-done _ a _ F.answer) (made_of t a _ _ s F)
+          steps a (frame_step (decode_table t) f a time frame fresh expected verdict) a_frame (said-done _ a _ F.answer) (made_of t a _ _ s F)
           (λ W z. subst (λ (p : Peer). Does (groups_in t) (limit_in t) (receive a time frame fresh expected verdict) p (frame_step (decode_table t) f a time frame fresh expected verdict)) q
           (frame-kind t a time frame fresh expected verdict f S (table-stock t s (receive a time frame fresh expected verdict) w.0) w.1 (subst Whole (sym q) W) (subst (λ (p : Peer). State p.run.state) (sym q) z)))
 
@@ -533,10 +533,10 @@ module _ (L : Lawful) (t : List ℕ) (H : Held t) where
       go (finish-ends t (slot (decode_table t) k).address b six.0 six.1 (found.At k) (clock_step (decode_table t) k time) G)
     where
       six : (length (slot (decode_table t) k).address ≡ 6) × Bytes (slot (decode_table t) k).address
-      six = L.expire-address t time k b s e
+      six = L.expire_address t time k b s e
 
       G : Good t (slot (decode_table t) k).address (found.At k) (clock_step (decode_table t) k time)
-      G = L.expire-good t time k b ht s e
+      G = L.expire_good t time k b ht s e
 
       at : look_by (decode_table t) (found.At k) ≡ look (decode_table t) (slot (decode_table t) k).address
       at = entered-look t (slot (decode_table t) k).address (found.At k) G.came
@@ -563,11 +563,11 @@ module _ (L : Lawful) (t : List ℕ) (H : Held t) where
       go false s = clock-idles t time _ (expires-unsound t time s) (refused-done why.Unsound) refl
 
   pub call_ends : {c : Call} → CallHanded c → Ends t c
-  call_ends (an-initialize bb ho hs) = initialize-ends _ _ _ _ bb ho hs
-  call_ends (an-initiate ha ht hf) = initiate-ends _ _ _ ha ht hf
-  call_ends (a-kill ha) = kill-ends _ ha
-  call_ends (a-receive ha ht hr hf he hv) = receive-ends _ _ _ _ _ _ ha ht hr hf he hv
-  call_ends (an-expire ht) = expire-ends _ ht
+  call_ends (an_initialize bb ho hs) = initialize-ends _ _ _ _ bb ho hs
+  call_ends (an_initiate ha ht hf) = initiate-ends _ _ _ ha ht hf
+  call_ends (a_kill ha) = kill-ends _ ha
+  call_ends (a_receive ha ht hr hf he hv) = receive-ends _ _ _ _ _ _ ha ht hr hf he hv
+  call_ends (an_expire ht) = expire-ends _ ht
   call_ends (a_write hw) = write-ends t _
-  call_ends a-fill = fill-ends t H
+  call_ends a_fill = fill-ends t H
   call_ends (a_move ht) = move-ends t _ _ H.bytes

@@ -29,7 +29,7 @@ use Rattle.agreement.specs.Statement.{no-link, SetTo}
 use Rattle.agreement.proofs.Rules.{either}
 use Rattle.agreement.proofs.Shows.{Shows, no-run, shows-state, shows-whole, shows_kept, shows-cleared}
 use Rattle.good_links.proofs.GoodLinks.{fills-none}
-use Rattle.agreement.proofs.Engine.{Lawful, Told, a-start, a-frame, a-clock, Held, sound-held, Ends, idles, goes_on, sets-up, frees, steps, call_ends, same-look, same-limit, fresh-look}
+use Rattle.agreement.proofs.Engine.{Lawful, Told, a_start, a_frame, a_clock, Held, sound-held, Ends, idles, goes_on, sets_up, frees, steps, call_ends, same-look, same-limit, fresh-look}
 
 -- ---- addresses are the same where their numbers are
 
@@ -48,14 +48,14 @@ about-idle t c a e = rw e (go (is_initialize c))
     go false = refl
 
 pub about-told : (t : List ℕ) {c : Call} {x : List ℕ} (a : List ℕ) → Told x c → is_about t c a ≡ (done t c && same_address (left t c).answer.address a)
-about-told t a a-start = refl
-about-told t a a-frame = refl
-about-told t a a-clock = refl
+about-told t a a_start = refl
+about-told t a a_frame = refl
+about-told t a a_clock = refl
 
 pub told-by : (t : List ℕ) {c : Call} {x : List ℕ} (s : Story) → Told x c → told_by t c s ≡ answered (groups_in t) (limit_in t) c (left t c).answer s
-told-by t s a-start = refl
-told-by t s a-frame = refl
-told-by t s a-clock = refl
+told-by t s a_start = refl
+told-by t s a_frame = refl
+told-by t s a_clock = refl
 
 said-address : (r : Answer) (o : Step) (a : List ℕ) → r ≡ said o a → r.address ≡ a
 unfolding said
@@ -93,7 +93,7 @@ module _ (t : List ℕ) where
   held_after : {c : Call} → Held t → Ends t c → Held (table_after t c)
   held_after b (idles d e) = subst Held (sym e) b
   held_after b (goes_on d S) = sound-held _ S.bytes₂ S.sound₂
-  held_after b (sets-up d f y n i) = y
+  held_after b (sets_up d f y n i) = y
   held_after b (frees d M) = sound-held _ M.bytes M.sound
   held_after b (steps a o k d M D) = sound-held _ M.bytes M.sound
 
@@ -101,7 +101,7 @@ module _ (t : List ℕ) where
       → Shows (limit_in (table_after t c)) (look (decode_table (table_after t c)) b) (story_after t c b s)
   shows-after {c} b s (idles d e) h = shows-at (ap (λ (u : List ℕ). limit_in u) e) (ap (λ (u : List ℕ). look (decode_table u) b) e) (idle-apart t c b s d) h
   shows-after {c} b s (goes_on d S) h = shows-at (same-limit t _ S) (same-look t _ S b) (idle-apart t c b s d) h
-  shows-after b s (sets-up d f y n i) h = shows-at refl (n b) (story-about t _ b s d) (shows-cleared _ s h.repeats)
+  shows-after b s (sets_up d f y n i) h = shows-at refl (n b) (story-about t _ b s d) (shows-cleared _ s h.repeats)
   shows-after b s (frees {a} d M) h = go (same_address a b) refl
     where
       go : (x : Bool) → same_address a b ≡ x → Shows (limit_in (table_after t (kill a))) (look (decode_table (table_after t (kill a))) b) (story_after t (kill a) b s)
@@ -138,7 +138,7 @@ module _ (P : ℕ → Type 0) where
   limits-after : (t : List ℕ) {c : Call} (b : List ℕ) (s : Story) → (sound t ≡ true → P (limit_in t)) → Ends t c → Limited P s.runs → Limited P (story_after t c b s).runs
   limits-after t {c} b s p (idles d e) h = rw (idle-apart t c b s d) h
   limits-after t {c} b s p (goes_on d S) h = rw (idle-apart t c b s d) h
-  limits-after t b s p (sets-up d f y n i) h = story-limited t _ b s (λ q. absurd (clash refl q)) h
+  limits-after t b s p (sets_up d f y n i) h = story-limited t _ b s (λ q. absurd (clash refl q)) h
   limits-after t b s p (frees d M) h = story-limited t _ b s (λ q. p M.was) h
   limits-after t b s p (steps a o k d M D) h = story-limited t _ b s (λ q. p M.was) h
 
@@ -148,7 +148,7 @@ limit-after : (n : ℕ) (t : List ℕ) {c : Call} → (sound t ≡ true → limi
     → Ends t c → sound (table_after t c) ≡ true → limit_in (table_after t c) ≡ n
 limit-after n t p z (idles d e) s = ap (λ (u : List ℕ). limit_in u) e ∙ p (subst (λ (u : List ℕ). sound u ≡ true) e s)
 limit-after n t p z (goes_on d S) s = same-limit t _ S ∙ p S.sound₁
-limit-after n t p z (sets-up {size} {buffer} {own} {settings} d f y m i) s = i ∙ z size buffer own settings d refl
+limit-after n t p z (sets_up {size} {buffer} {own} {settings} d f y m i) s = i ∙ z size buffer own settings d refl
 limit-after n t p z (frees d M) s = M.limit ∙ p M.was
 limit-after n t p z (steps a o k d M D) s = M.limit ∙ p M.was
 

@@ -25,11 +25,11 @@ use Rattle.rules.specs.Parts.{with_sync, with_sc, with_token, switched, heard_ag
 use Rattle.rules.specs.declared.Clock.{Clock}
 use Rattle.rules.specs.Book.{◌is◌, ◌isnt◌, ◌above◌, holds, Terms, silence, in_committed, in_confirmed, has_link, unsupported, linked, lacks_token, wrong_token, equals_fresh, equals_own, unverified, outranks, no_slot, spent, link_spent, t0_due, set_t0, sending, answering, refusing, settled, abandoning, ending_link, retransmitting, dropping, formed_run, forming, started_run, starting, switching_to, switching, link_of_run, accepting, answering_commit, confirming_commit, replying_token, repeating_commit, repeating_refusal, confirming_again, resending_both, hearing_last, hearing_again, start_act, commit_idle, commit_committed, commit_confirmed, confirm_committed, confirm_confirmed, confirm_linked, clock_act, commit_act, confirm_act, frame_act, perform, on_frame, on_clock, on_start}
 use Rattle.rules.specs.Book as book
-use Rattle.rules.specs.Asked.{NoRun, Asked, refuse-group, ask-token, no-slot, begin, answer-commit, confirm-commit, reply-token, switch-group, repeat-commit, repeat-refusal, resend-both, confirm-again, give-up, accept, hear-again, hear-last, end-link, drop}
+use Rattle.rules.specs.Asked.{NoRun, Asked, refuse_group, ask_token, no-slot, begin, answer_commit, confirm_commit, reply_token, switch_group, repeat_commit, repeat_refusal, resend_both, confirm_again, give_up, accept, hear_again, hear_last, end_link, drop}
 use Rattle.rules.proofs.Ladders.{frame-asked, clock-asked}
 use Rattle.agreement.specs.Calls.{Call}
 use Rattle.agreement.specs.Story.{is_start, is_frame, stock_in}
-use Rattle.agreement.proofs.Rules.{either, Whole, SameRun, SameLink, Afresh, Hears, Verified, Does, quiet, informs, starts, switches, forms-fresh, forms-own, repeats, repeats-both, repeats-confirm, accepts, abandons, ends, answers}
+use Rattle.agreement.proofs.Rules.{either, Whole, SameRun, SameLink, Afresh, Hears, Verified, Does, quiet, informs, starts, switches, forms_fresh, forms_own, repeats, repeats_both, repeats_confirm, accepts, abandons, ends, answers}
 
 -- the run state is 0, 1 or 2
 pub data State (n : ℕ) : Type 0 where
@@ -39,8 +39,8 @@ pub data State (n : ℕ) : Type 0 where
 
 without : (p : Peer) → State p.run.state → NoRun p → p.run.state ≡ 0
 without p (idle e) r = e
-without p (committed e) r = absurd (r.not-committed e)
-without p (confirmed e) r = absurd (r.not-confirmed e)
+without p (committed e) r = absurd (r.not_committed e)
+without p (confirmed e) r = absurd (r.not_confirmed e)
 
 unconfirmed : {n : ℕ} → State n → (n ≡ 2 → ⊥) → (n ≡ 0) ⊎ (n ≡ 1)
 unconfirmed (idle e) d = inl e
@@ -204,23 +204,23 @@ module _ (gs : List ℕ) (c : Call) (κ : Clock) (p : Peer) (n : is_start c ≡ 
   unfolding confirming_again retransmitting sending with_run set_t0 with_sync with_sc
   confirmed-again s =
       either (Does gs κ.limit c p) (p.run.sync above κ.limit) (λ e. abandoned)
-      (λ e. repeats-confirm n s (ltb-false _ _ e) (record { state = s; sync = refl; sc = refl; group = refl; own = refl; peer = refl }) refl)
+      (λ e. repeats_confirm n s (ltb-false _ _ e) (record { state = s; sync = refl; sc = refl; group = refl; own = refl; peer = refl }) refl)
 
   resent : p.run.state ≡ 2 → p.run.sync ≤ κ.limit → Does gs κ.limit c p (resending_both κ p)
   unfolding resending_both sending with_run set_t0 with_sync with_sc
-  resent s l = repeats-both n s l (record { state = s; sync = refl; sc = refl; group = refl; own = refl; peer = refl }) refl
+  resent s l = repeats_both n s l (record { state = s; sync = refl; sc = refl; group = refl; own = refl; peer = refl }) refl
 
   -- Form
   formed-fresh : (address : List ℕ) (m : Message) (own : List ℕ) → (p.run.state ≡ 0) ⊎ (p.run.state ≡ 1) → Afresh gs c m.group own
       → Hears gs c m.group m.commit → Does gs κ.limit c p (answering_commit κ p address m own)
   unfolding answering_commit forming formed_run set_t0
-  formed-fresh address m own s f k = forms-fresh n s f k (record { state = refl; sync = refl; sc = refl; group = refl; own = refl; peer = refl }) refl
+  formed-fresh address m own s f k = forms_fresh n s f k (record { state = refl; sync = refl; sc = refl; group = refl; own = refl; peer = refl }) refl
 
   formed-own : (address : List ℕ) (m : Message) → p.run.state ≡ 1 → m.group ≡ p.run.group → Hears gs c m.group m.commit
       → Does gs κ.limit c p (confirming_commit κ p address m)
   unfolding confirming_commit forming formed_run set_t0
   formed-own address m s e k =
-      forms-own n s (subst (λ (x : ℕ). Hears gs c x m.commit) e k) (record { state = refl; sync = refl; sc = refl; group = e; own = refl; peer = refl }) refl
+      forms_own n s (subst (λ (x : ℕ). Hears gs c x m.commit) e k) (record { state = refl; sync = refl; sc = refl; group = e; own = refl; peer = refl }) refl
 
   switched-to : (rejected : ℕ) (k : Choice) → first_left gs 0 rejected ≡ k → p.run.state ≡ 1 → Stocked gs c
       → Does gs κ.limit c p (switching_to κ p rejected k (stock_in gs c))
@@ -252,29 +252,29 @@ module _ (t : Terms) (b : book.Call) (c : Call) (p : Peer) (m : Message) (n : is
     (W : Whole p) (z : State p.run.state) (H : Heard t.groups c m b.verified) (S : (m.sequence is 1) ≡ true → Stocked t.groups c) where
   act-does : {a : Act} → Asked t b p m a → fits (m.sequence is 1) a ≡ true → Does t.groups b.clock.limit c p (perform t b p m a)
   unfolding perform fits repeating_commit repeating_refusal
-  act-does (refuse-group r s l) f = informed t.groups c b.clock p n W 77 m.group (without p z r) refl
-  act-does (ask-token r s l) f = informed t.groups c b.clock p n W 76 m.group (without p z r) refl
+  act-does (refuse_group r s l) f = informed t.groups c b.clock p n W 77 m.group (without p z r) refl
+  act-does (ask_token r s l) f = informed t.groups c b.clock p n W 76 m.group (without p z r) refl
   act-does (no-slot r u) f = denied t.groups c b.clock p n W
   act-does (begin r u) f = absurd (clash f refl)
-  act-does (answer-commit d u o e) f =
+  act-does (answer_commit d u o e) f =
       let k = H.commit o.status o.listed in
       let w = (S f).group m.group k.1 in
       formed-fresh t.groups c b.clock p n W b.address m _ (unconfirmed z d)
       (subst (λ (x : List (List ℕ)). Afresh t.groups c m.group (fresh_for t.groups x m.group)) (sym same) w) k.0
-  act-does (confirm-commit s o g e) f = formed-own t.groups c b.clock p n W b.address m s g (H.commit o.status o.listed).0
-  act-does (reply-token s q g) f = replied t.groups c b.clock p n W m s
-  act-does (switch-group s q g) f =
+  act-does (confirm_commit s o g e) f = formed-own t.groups c b.clock p n W b.address m s g (H.commit o.status o.listed).0
+  act-does (reply_token s q g) f = replied t.groups c b.clock p n W m s
+  act-does (switch_group s q g) f =
       subst (λ (x : List (List ℕ)). Does t.groups b.clock.limit c p (switching b.clock p t.groups x)) (sym same)
       (switched-over t.groups c b.clock p n W s (S f))
-  act-does (repeat-commit s q) f = retransmitted t.groups c b.clock p n W p.run 0 p.run.group s s refl refl
-  act-does (repeat-refusal s q l) f = retransmitted t.groups c b.clock p n W p.run 77 m.group s s refl refl
-  act-does (resend-both s q l g) f = resent t.groups c b.clock p n W s l
-  act-does (confirm-again s q) f = confirmed-again t.groups c b.clock p n W s
-  act-does (give-up s q l) f = abandoned t.groups c b.clock p n W
+  act-does (repeat_commit s q) f = retransmitted t.groups c b.clock p n W p.run 0 p.run.group s s refl refl
+  act-does (repeat_refusal s q l) f = retransmitted t.groups c b.clock p n W p.run 77 m.group s s refl refl
+  act-does (resend_both s q l g) f = resent t.groups c b.clock p n W s l
+  act-does (confirm_again s q) f = confirmed-again t.groups c b.clock p n W s
+  act-does (give_up s q l) f = abandoned t.groups c b.clock p n W
   act-does (accept s d q v) f = accepted t.groups c b.clock p n W m.counter b.clock.time s (H.confirm d q v)
-  act-does (hear-again r d l h v) f = heard-again t.groups c b.clock p n W m.counter (without p z r) d
-  act-does (hear-last r d l h v) f = heard-last t.groups c b.clock p n W m.counter d
-  act-does end-link f = ended t.groups c b.clock p n W
+  act-does (hear_again r d l h v) f = heard-again t.groups c b.clock p n W m.counter (without p z r) d
+  act-does (hear_last r d l h v) f = heard-last t.groups c b.clock p n W m.counter d
+  act-does end_link f = ended t.groups c b.clock p n W
   act-does (drop d) f = dropped t.groups c b.clock p n W
 
   pub frame-does : Does t.groups b.clock.limit c p (on_frame t b p m)

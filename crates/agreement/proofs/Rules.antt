@@ -76,7 +76,7 @@ pub record Hears (gs : List ℕ) (c : Call) (g : ℕ) (theirs : List ℕ) : Type
   pub token : ℕ
   pub frame : is_frame c ≡ true
   pub reads : read_body gs (frame_of c) ≡ body.Commit g token
-  pub stored-as : theirs ≡ stored (commit_of (frame_of c) g token)
+  pub stored_as : theirs ≡ stored (commit_of (frame_of c) g token)
 
 -- the frame is a Confirm with verdict 1
 pub data Verified (gs : List ℕ) : Call → Type 0 where
@@ -97,10 +97,10 @@ pub data Does (gs : List ℕ) (limit : ℕ) (c : Call) (p : Peer) : Step → Typ
   switches : {q : Peer} {g : ℕ} {own : List ℕ} → is_start c ≡ false → p.run.state ≡ 1 → Afresh gs c g own → Committed q p.run.sync g own → q.link ≡ p.link
       → Does gs limit c p (record { peer = q; event = event.None; frames = frames.One (commit_frame g); afresh = g; refused = false })
   -- a pair formed with a fresh commit, or with the run's own
-  forms-fresh : {q : Peer} {g : ℕ} {own theirs : List ℕ} → is_start c ≡ false → (p.run.state ≡ 0) ⊎ (p.run.state ≡ 1)
+  forms_fresh : {q : Peer} {g : ℕ} {own theirs : List ℕ} → is_start c ≡ false → (p.run.state ≡ 0) ⊎ (p.run.state ≡ 1)
       → Afresh gs c g own → Hears gs c g theirs → Confirmed q 0 1 g own theirs → q.link ≡ supersede p.link
       → Does gs limit c p (record { peer = q; event = event.None; frames = frames.Two (commit_frame g) (confirm_frame 1); afresh = g; refused = false })
-  forms-own : {q : Peer} {theirs : List ℕ} → is_start c ≡ false → p.run.state ≡ 1
+  forms_own : {q : Peer} {theirs : List ℕ} → is_start c ≡ false → p.run.state ≡ 1
       → Hears gs c p.run.group theirs → Confirmed q 0 1 p.run.group p.run.own theirs → q.link ≡ supersede p.link
       → Does gs limit c p (record { peer = q; event = event.None; frames = frames.One (confirm_frame 1); afresh = 0; refused = false })
   -- a repeat in Committed, the reply to a 76 among them
@@ -108,10 +108,10 @@ pub data Does (gs : List ℕ) (limit : ℕ) (c : Call) (p : Peer) : Step → Typ
       → Committed q (p.run.sync + 1) p.run.group p.run.own → q.link ≡ p.link
       → Does gs limit c p (record { peer = q; event = event.None; frames = frames.One (record { sequence = 1; status = x; group = g; counter = 0 }); afresh = 0; refused = false })
   -- a repeat in Confirmed, of Commit and Confirm or of the Confirm
-  repeats-both : {q : Peer} {g : ℕ} → is_start c ≡ false → p.run.state ≡ 2 → p.run.sync ≤ limit
+  repeats_both : {q : Peer} {g : ℕ} → is_start c ≡ false → p.run.state ≡ 2 → p.run.sync ≤ limit
       → Confirmed q (p.run.sync + 1) (p.run.sc + 1) p.run.group p.run.own p.run.peer → q.link ≡ p.link
       → Does gs limit c p (record { peer = q; event = event.None; frames = frames.Two (commit_frame g) (confirm_frame (p.run.sc + 1)); afresh = 0; refused = false })
-  repeats-confirm : {q : Peer} → is_start c ≡ false → p.run.state ≡ 2 → p.run.sync ≤ limit
+  repeats_confirm : {q : Peer} → is_start c ≡ false → p.run.state ≡ 2 → p.run.sync ≤ limit
       → Confirmed q (p.run.sync + 1) (p.run.sc + 1) p.run.group p.run.own p.run.peer → q.link ≡ p.link
       → Does gs limit c p (record { peer = q; event = event.None; frames = frames.One (confirm_frame (p.run.sc + 1)); afresh = 0; refused = false })
   -- the run becomes the link

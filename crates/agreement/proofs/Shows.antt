@@ -25,8 +25,8 @@ use Rattle.answers.specs.Answers.{said}
 use Rattle.agreement.specs.Calls.{Call}
 use Rattle.agreement.specs.Story.{Pair, unlinked, finished, marked, Story, answered, told, cleared}
 use Rattle.agreement.specs.Story as story
-use Rattle.agreement.specs.Statement.{Says, no-link, a-link}
-use Rattle.agreement.proofs.Rules.{either, Whole, SameRun, SameLink, Does, quiet, informs, starts, switches, forms-fresh, forms-own, repeats, repeats-both, repeats-confirm, accepts, abandons, ends, answers}
+use Rattle.agreement.specs.Statement.{Says, no-link, a_link}
+use Rattle.agreement.proofs.Rules.{either, Whole, SameRun, SameLink, Does, quiet, informs, starts, switches, forms_fresh, forms_own, repeats, repeats_both, repeats_confirm, accepts, abandons, ends, answers}
 use Rattle.agreement.proofs.Ruled.{State, idle, committed, confirmed, no-run-state}
 
 pub impossible : {X : Type 0} (n : ℕ) {a b : ℕ} → n ≡ a → n ≡ b → (a ≡ b → ⊥) → X
@@ -72,7 +72,7 @@ run-free (paired e a b c d f g u) z = zero-two z e
 
 link-free : {l : story.Link} {k : Link} → Says l k → k.finished ≡ 0 → k ≡ no_link
 link-free no-link z = refl
-link-free (a-link f a b c d) z = zero_one z f
+link-free (a_link f a b c d) z = zero_one z f
 
 -- Sync counts the run's repeats since it began or, once its pair stands, since then
 run-counts : {limit : ℕ} {r : Run} {b d : Bool} {f : Commit} {p : Pair} {ks : List Tally} → RunShows limit r b d f p ks → b ≡ true → r.sync ≡ latest d ks
@@ -109,7 +109,7 @@ same-shows E (paired e a b c d g z u) =
 says_same : {l : story.Link} {k : Link} (j : Link) → Says l k → (k ≡ no_link → j ≡ no_link) → j.finished ≡ k.finished → j.superseded ≡ k.superseded
     → j.group ≡ k.group → j.own ≡ k.own → j.peer ≡ k.peer → Says l j
 says_same j no-link n f a b c d = subst (Says unlinked) (sym (n refl)) no-link
-says_same j (a-link f a b c d) n f' a' b' c' d' = a-link (f' ∙ f) (a' ∙ a) (b' ∙ b) (c' ∙ c) (d' ∙ d)
+says_same j (a_link f a b c d) n f' a' b' c' d' = a_link (f' ∙ f) (a' ∙ a) (b' ∙ b) (c' ∙ c) (d' ∙ d)
 
 same-says : {p q : Peer} {l : story.Link} → SameLink p q → Says l p.link → Says l q.link
 same-says {q = q} E h = says_same q.link h E.free E.finished E.superseded E.group E.own E.peer
@@ -150,31 +150,31 @@ module _ (gs : List ℕ) (limit : ℕ) (c : Call) (a : List ℕ) (l : story.Link
   run-kept (switches n s A C k) (unpaired e a b c d z u) =
       rw (n, A.some) (unpaired C.state (sym C.group) (sym (C.own ∙ A.stock)) (rw (C.group, C.own) A.padded) (d ∙ sym C.sync) z u)
   run-kept (switches n s A C k) (paired e a b c d g z u) = one-two s e
-  run-kept (forms-fresh n s A H C k) (no-run e) =
+  run-kept (forms_fresh n s A H C k) (no-run e) =
       rw (n, A.some, H.frame, H.reads)
-      (paired C.state (sym C.group) (sym (C.own ∙ A.stock)) (sym (C.peer ∙ H.stored-as)) (rw (C.group, C.own) A.padded) (rw (C.sc, C.sync)) (sym C.sync) refl)
-  run-kept (forms-fresh n s A H C k) (unpaired e a b c d z u) =
+      (paired C.state (sym C.group) (sym (C.own ∙ A.stock)) (sym (C.peer ∙ H.stored_as)) (rw (C.group, C.own) A.padded) (rw (C.sc, C.sync)) (sym C.sync) refl)
+  run-kept (forms_fresh n s A H C k) (unpaired e a b c d z u) =
       rw (n, A.some, H.frame, H.reads)
-      (paired C.state (sym C.group) (sym (C.own ∙ A.stock)) (sym (C.peer ∙ H.stored-as)) (rw (C.group, C.own) A.padded) (rw (C.sc, C.sync)) (z ∙ sym C.sync) u)
-  run-kept (forms-fresh n (inl s) A H C k) (paired e a b c d g z u) = zero-two s e
-  run-kept (forms-fresh n (inr s) A H C k) (paired e a b c d g z u) = one-two s e
-  run-kept (forms-own n s H C k) (no-run e) = zero_one (no-run-state _ e) s
-  run-kept (forms-own n s H C k) (unpaired e a b c d z u) =
+      (paired C.state (sym C.group) (sym (C.own ∙ A.stock)) (sym (C.peer ∙ H.stored_as)) (rw (C.group, C.own) A.padded) (rw (C.sc, C.sync)) (z ∙ sym C.sync) u)
+  run-kept (forms_fresh n (inl s) A H C k) (paired e a b c d g z u) = zero-two s e
+  run-kept (forms_fresh n (inr s) A H C k) (paired e a b c d g z u) = one-two s e
+  run-kept (forms_own n s H C k) (no-run e) = zero_one (no-run-state _ e) s
+  run-kept (forms_own n s H C k) (unpaired e a b c d z u) =
       rw (n, H.frame, H.reads)
-      (paired C.state (sym C.group) (b ∙ sym C.own) (sym (C.peer ∙ H.stored-as)) (rw (C.group, C.own) c) (rw (C.sc, C.sync)) (z ∙ sym C.sync) u)
-  run-kept (forms-own n s H C k) (paired e a b c d g z u) = one-two s e
+      (paired C.state (sym C.group) (b ∙ sym C.own) (sym (C.peer ∙ H.stored_as)) (rw (C.group, C.own) c) (rw (C.sc, C.sync)) (z ∙ sym C.sync) u)
+  run-kept (forms_own n s H C k) (paired e a b c d g z u) = one-two s e
   run-kept (repeats n s m C k) (no-run e) = zero_one (no-run-state _ e) s
   run-kept (repeats n s m C k) (unpaired e a b c d z u) =
       rw n (unpaired C.state (a ∙ sym C.group) (b ∙ sym C.own) (rw (C.group, C.own) c) (ap suc d ∙ sym (C.sync ∙ add-one _)) z u)
   run-kept (repeats n s m C k) (paired e a b c d g z u) = one-two s e
-  run-kept (repeats-both n s m C k) (no-run e) = zero-two (no-run-state _ e) s
-  run-kept (repeats-both n s m C k) (unpaired e a b c d z u) = one-two e s
-  run-kept (repeats-both n s m C k) (paired e a b c d g z u) =
+  run-kept (repeats_both n s m C k) (no-run e) = zero-two (no-run-state _ e) s
+  run-kept (repeats_both n s m C k) (unpaired e a b c d z u) = one-two e s
+  run-kept (repeats_both n s m C k) (paired e a b c d g z u) =
       rw (n, not-one _ _ g)
       (paired C.state (a ∙ sym C.group) (b ∙ sym C.own) (c ∙ sym C.peer) (rw (C.group, C.own) d) (rw (C.sc, C.sync, g)) (ap suc z ∙ sym (C.sync ∙ add-one _)) u)
-  run-kept (repeats-confirm n s m C k) (no-run e) = zero-two (no-run-state _ e) s
-  run-kept (repeats-confirm n s m C k) (unpaired e a b c d z u) = one-two e s
-  run-kept (repeats-confirm n s m C k) (paired e a b c d g z u) =
+  run-kept (repeats_confirm n s m C k) (no-run e) = zero-two (no-run-state _ e) s
+  run-kept (repeats_confirm n s m C k) (unpaired e a b c d z u) = one-two e s
+  run-kept (repeats_confirm n s m C k) (paired e a b c d g z u) =
       rw (n, not-one _ _ g)
       (paired C.state (a ∙ sym C.group) (b ∙ sym C.own) (c ∙ sym C.peer) (rw (C.group, C.own) d) (rw (C.sc, C.sync, g)) (ap suc z ∙ sym (C.sync ∙ add-one _)) u)
   run-kept (accepts n s v k i j g x y) (no-run e) = zero-two (no-run-state _ e) s
@@ -194,12 +194,12 @@ module _ (gs : List ℕ) (limit : ℕ) (c : Call) (a : List ℕ) (l : story.Link
 
 unmarked : {l : story.Link} {k : Link} → Says l k → Says (marked false l) k
 unmarked no-link = no-link
-unmarked (a-link f a b c d) = a-link f a b c d
+unmarked (a_link f a b c d) = a_link f a b c d
 
 superseded : {l : story.Link} {k : Link} → Says l k → Says (marked true l) (supersede k)
 unfolding supersede no_link
 superseded no-link = no-link
-superseded (a-link {p = p} {l = k} f a b c d) = either (Says (finished p true)) (k.finished is 0) (λ e. zero_one (eqb-true _ _ e) f) (λ e. a-link f refl b c d)
+superseded (a_link {p = p} {l = k} f a b c d) = either (Says (finished p true)) (k.finished is 0) (λ e. zero_one (eqb-true _ _ e) f) (λ e. a_link f refl b c d)
 
 module _ (gs : List ℕ) (limit : ℕ) (c : Call) (a : List ℕ) where
   link-kept : {p : Peer} {o : Step} {b d : Bool} {f : Commit} {x : Pair} {ks : List Tally} {l : story.Link} → Does gs limit c p o → RunShows limit p.run b d f x ks → Says l p.link
@@ -209,18 +209,18 @@ module _ (gs : List ℕ) (limit : ℕ) (c : Call) (a : List ℕ) where
   link-kept (informs n s x) r h = unmarked h
   link-kept (starts n m s A C k) r h = unmarked (kept-says k h)
   link-kept (switches n s A C k) r h = unmarked (kept-says k h)
-  link-kept (forms-fresh n s A H C k) r h = rw H.frame (kept-says k (superseded h))
-  link-kept (forms-own n s H C k) r h = rw H.frame (kept-says k (superseded h))
+  link-kept (forms_fresh n s A H C k) r h = rw H.frame (kept-says k (superseded h))
+  link-kept (forms_own n s H C k) r h = rw H.frame (kept-says k (superseded h))
   link-kept (repeats n s m C k) r h = unmarked (kept-says k h)
-  link-kept (repeats-both n s m C k) (no-run e) h = zero-two (no-run-state _ e) s
-  link-kept (repeats-both n s m C k) (unpaired e a b c d z u) h = one-two e s
-  link-kept (repeats-both n s m C k) (paired e a b c d g z u) h = rw (not-one _ _ g) (unmarked (kept-says k h))
-  link-kept (repeats-confirm n s m C k) (no-run e) h = zero-two (no-run-state _ e) s
-  link-kept (repeats-confirm n s m C k) (unpaired e a b c d z u) h = one-two e s
-  link-kept (repeats-confirm n s m C k) (paired e a b c d g z u) h = rw (not-one _ _ g) (unmarked (kept-says k h))
+  link-kept (repeats_both n s m C k) (no-run e) h = zero-two (no-run-state _ e) s
+  link-kept (repeats_both n s m C k) (unpaired e a b c d z u) h = one-two e s
+  link-kept (repeats_both n s m C k) (paired e a b c d g z u) h = rw (not-one _ _ g) (unmarked (kept-says k h))
+  link-kept (repeats_confirm n s m C k) (no-run e) h = zero-two (no-run-state _ e) s
+  link-kept (repeats_confirm n s m C k) (unpaired e a b c d z u) h = one-two e s
+  link-kept (repeats_confirm n s m C k) (paired e a b c d g z u) h = rw (not-one _ _ g) (unmarked (kept-says k h))
   link-kept (accepts n s v k i j g x y) (no-run e) h = zero-two (no-run-state _ e) s
   link-kept (accepts n s v k i j g x y) (unpaired e a b c d z u) h = one-two e s
-  link-kept (accepts n s v k i j g x y) (paired e a b c d w z u) h = a-link i j (g ∙ sym a) (x ∙ sym b) (y ∙ sym c)
+  link-kept (accepts n s v k i j g x y) (paired e a b c d w z u) h = a_link i j (g ∙ sym a) (x ∙ sym b) (y ∙ sym c)
   link-kept (abandons n k i) r h = kept-says i h
   link-kept (ends n k i) r h = kept-says i no-link
   link-kept (answers n s f k E) r h = unmarked (same-says E h)
@@ -240,23 +240,23 @@ module _ (gs : List ℕ) (limit : ℕ) (c : Call) (a : List ℕ) where
   repeats-kept l (switches n s A C k) (no-run e) h = zero_one (no-run-state _ e) s
   repeats-kept l (switches n s A C k) (unpaired e a b c d z u) h = rw (n, A.some) h
   repeats-kept l (switches n s A C k) (paired e a b c d g z u) h = one-two s e
-  repeats-kept l (forms-fresh n s A H C k) (no-run e) h = rw (n, H.frame) (begun-at-most limit _ h)
-  repeats-kept l (forms-fresh n s A H C k) (unpaired e a b c d z u) h = rw (n, A.some, H.frame) h
-  repeats-kept l (forms-fresh n (inl s) A H C k) (paired e a b c d g z u) h = zero-two s e
-  repeats-kept l (forms-fresh n (inr s) A H C k) (paired e a b c d g z u) h = one-two s e
-  repeats-kept l (forms-own n s H C k) (no-run e) h = zero_one (no-run-state _ e) s
-  repeats-kept l (forms-own n s H C k) (unpaired e a b c d z u) h = rw (n, H.frame) h
-  repeats-kept l (forms-own n s H C k) (paired e a b c d g z u) h = one-two s e
+  repeats-kept l (forms_fresh n s A H C k) (no-run e) h = rw (n, H.frame) (begun-at-most limit _ h)
+  repeats-kept l (forms_fresh n s A H C k) (unpaired e a b c d z u) h = rw (n, A.some, H.frame) h
+  repeats-kept l (forms_fresh n (inl s) A H C k) (paired e a b c d g z u) h = zero-two s e
+  repeats-kept l (forms_fresh n (inr s) A H C k) (paired e a b c d g z u) h = one-two s e
+  repeats-kept l (forms_own n s H C k) (no-run e) h = zero_one (no-run-state _ e) s
+  repeats-kept l (forms_own n s H C k) (unpaired e a b c d z u) h = rw (n, H.frame) h
+  repeats-kept l (forms_own n s H C k) (paired e a b c d g z u) h = one-two s e
   repeats-kept l (repeats n s m C k) (no-run e) h = zero_one (no-run-state _ e) s
   repeats-kept l (repeats n s m C k) (unpaired {k = t} {ks = ts} e a b c d z u) h = rw n (let y : t.before ≤ t.limit = rw (d, u) m in more-at-most false t ts y h)
   repeats-kept l (repeats n s m C k) (paired e a b c d g z u) h = one-two s e
-  repeats-kept l (repeats-both n s m C k) (no-run e) h = zero-two (no-run-state _ e) s
-  repeats-kept l (repeats-both n s m C k) (unpaired e a b c d z u) h = one-two e s
-  repeats-kept l (repeats-both n s m C k) (paired {k = t} {ks = ts} e a b c d g z u) h =
+  repeats-kept l (repeats_both n s m C k) (no-run e) h = zero-two (no-run-state _ e) s
+  repeats-kept l (repeats_both n s m C k) (unpaired e a b c d z u) h = one-two e s
+  repeats-kept l (repeats_both n s m C k) (paired {k = t} {ks = ts} e a b c d g z u) h =
       rw (n, not-one _ _ g) (let y : t.after ≤ t.limit = rw (z, u) m in more-at-most true t ts y h)
-  repeats-kept l (repeats-confirm n s m C k) (no-run e) h = zero-two (no-run-state _ e) s
-  repeats-kept l (repeats-confirm n s m C k) (unpaired e a b c d z u) h = one-two e s
-  repeats-kept l (repeats-confirm n s m C k) (paired {k = t} {ks = ts} e a b c d g z u) h =
+  repeats-kept l (repeats_confirm n s m C k) (no-run e) h = zero-two (no-run-state _ e) s
+  repeats-kept l (repeats_confirm n s m C k) (unpaired e a b c d z u) h = one-two e s
+  repeats-kept l (repeats_confirm n s m C k) (paired {k = t} {ks = ts} e a b c d g z u) h =
       rw (n, not-one _ _ g) (let y : t.after ≤ t.limit = rw (z, u) m in more-at-most true t ts y h)
   repeats-kept l (accepts n s v k i j g x y) (no-run e) h = zero-two (no-run-state _ e) s
   repeats-kept l (accepts n s v k i j g x y) (unpaired e a b c d z u) h = one-two e s

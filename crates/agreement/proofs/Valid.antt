@@ -28,7 +28,7 @@ use Rattle.agreement.specs.Story.{Pair, exchanged, Story, is_confirm, frame_of, 
 use Rattle.agreement.specs.Story as story
 use Rattle.agreement.specs.Sent.{drawn, expected_of, SendsBy, link_pair, made_over, SentOver}
 use Rattle.agreement.specs.Statement as statement
-use Rattle.agreement.specs.Statement.{Says, no-link, a-link}
+use Rattle.agreement.specs.Statement.{Says, no-link, a_link}
 use Rattle.agreement.specs.Needed.{UsesMutually, SentCommit, Rightful, Needed}
 use Rattle.agreement.proofs.Rules.{Verified, verified}
 use Rattle.agreement.proofs.Ruled.{no-run-state}
@@ -36,7 +36,7 @@ use Rattle.agreement.proofs.Shows.{Padded, RunShows, no-run, unpaired, paired, S
 use Rattle.agreement.proofs.Stock.{sound-listing}
 use Rattle.agreement.proofs.Engine.{Lawful, call_ends, fresh-look}
 use Rattle.agreement.proofs.History.{look-same-address, held_of, shown, empty-slot}
-use Rattle.agreement.proofs.Acts.{own_commit, view, Over, over-run, over-link, commit-is}
+use Rattle.agreement.proofs.Acts.{own_commit, view, Over, over_run, over_link, commit_is}
 use Rattle.agreement.proofs.Wire.{FromRecord, record-from, parts-not, reads-own}
 use Rattle.agreement.proofs.Deeds.{From, from, Deed, deed, view-none}
 
@@ -73,7 +73,7 @@ no-link-clash f = clash refl f
 
 says-link : {l : story.Link} {k : Link} (q : Pair) → Says l k → eqb k.finished 0 ≡ false → link_pair l q ≡ record { group = k.group; own = k.own; peer = k.peer }
 says-link q no-link f = absurd (no-link-clash f)
-says-link q (a-link {p = p} e a b c d) f = pair_is p (sym b) (sym c) (sym d)
+says-link q (a_link {p = p} e a b c d) f = pair_is p (sym b) (sym c) (sym d)
 
 -- ---- the call of an act
 
@@ -233,10 +233,10 @@ module _ (L : Lawful) (own : Side → List ℕ) where
     confirm-made octets x p S i m = go ((deed-of k H).1.confirms S.stepped S.to x S.among i)
       where
         go : Over now-left x (deed-of k H).0 → SendsConfirm (own_of p) (peer_of p) (deed-of k H).0
-        go (over-run f s c) =
+        go (over_run f s c) =
             let z : (story_of (e ∷ h) e.side address).pair ≡ p = rw f at m in
             subst (λ (y : Pair). SendsConfirm (own_of y) (peer_of y) (deed-of k H).0) (sym (shows-pair _ now-left _ shown-left s) ∙ z) c
-        go (over-link f s c) =
+        go (over_link f s c) =
             let z : link_pair (story_of (e ∷ h) e.side address).link (story_of (e ∷ h) e.side address).pair ≡ p = rw f at m in
             subst (λ (y : Pair). SendsConfirm (own_of y) (peer_of y) (deed-of k H).0) (sym (says-link _ shown-left.link (not-true _ s)) ∙ z) c
 
@@ -282,7 +282,7 @@ module _ (L : Lawful) (own : Side → List ℕ) where
   once-commit : {h : List Entry} (H : AllHanded h) (Y : Side) (gs : List ℕ) (c : Commit) → SentCommit Y (own (other Y)) gs c h → Once (SendsCommit c) Y (hist H)
   once-commit H Y gs c C =
       let S = C.sent in
-      subst (λ (d : Commit). Once (SendsCommit d) Y (hist H)) (sym (commit-is c refl (sym C.commit)))
+      subst (λ (d : Commit). Once (SendsCommit d) Y (hist H)) (sym (commit_is c refl (sym C.commit)))
       (once-at _ Y S.comes H (λ k K. commit-sent-by k K Y gs C.octets c.group C.token S.frame S.sends.by C.reads S.sends) (sym S.sends.by))
 
   once-confirm : {h : List Entry} (H : AllHanded h) (Y : Side) (octets : List ℕ) (p : Pair) → SentOver Y (own (other Y)) octets p h
@@ -318,10 +318,10 @@ module _ (L : Lawful) (own : Side → List ℕ) where
         let gs = groups_in (table_of h e.side) in
         let z : frame_of e.call ≡ x.frame = ap frame_of x.whole in
         let r : read_body gs x.frame ≡ body.Commit q.group n = rw z at w.hears.reads in
-        let y : q.octets ≡ stored (commit_of x.frame q.group n) = rw z at w.hears.stored-as in
+        let y : q.octets ≡ stored (commit_of x.frame q.group n) = rw z at w.hears.stored_as in
         let d : Commit = record { group = q.group; octets = stored (commit_of x.frame q.group n) } in
         let C = P.only e.side e h x.address x.time x.frame x.fresh x.expected x.verdict q.group n last w.done refl x.whole x.near r w.forms in
-        subst (λ (b : Commit). Once (SendsCommit b) (other e.side) (hist H)) (sym (commit-is q refl y))
+        subst (λ (b : Commit). Once (SendsCommit b) (other e.side) (hist H)) (sym (commit_is q refl y))
         (once-commit H (other e.side) gs d (back e.side (λ a. SentCommit (other e.side) a gs d h) C))
 
   module _ {e : Entry} {h : List Entry} (k : Handed e) (H : AllHanded h) (P : Rightful own (e ∷ h)) where

@@ -15,7 +15,7 @@ use Rattle.frame.specs.Writing.{Drawn, Octets, Outside, draw_commit, draw_token_
 use Rattle.frame.specs.declared.Body.TheVariants as body_is
 use Rattle.frame.proofs.Laws.{length-body}
 use Rattle.frame.proofs.Shapes.{commit-shape}
-use Rattle.frame.proofs.RoundTrip.{body-third, commit-back, token-request-no-offer, group-refusal-no-offer, confirm-no-offer}
+use Rattle.frame.proofs.RoundTrip.{body-third, commit_back, token-request-no-offer, group-refusal-no-offer, confirm-no-offer}
 use Rattle.rule_laws.proofs.Keeps.{known-fits}
 use Rattle.record.specs.declared.Peer.{Peer}
 use Rattle.rules.specs.Book.{◌is◌, ◌isnt◌}
@@ -23,7 +23,7 @@ use Rattle.writer.specs.Writer.{record_commit, record_confirm, record_body}
 use Rattle.agreement.proofs.Rules.{either}
 use Rattle.agreement.proofs.Shows.{Padded}
 use Rattle.agreement.proofs.Stock.{Listing}
-use Rattle.agreement.proofs.Acts.{own_commit, commit-is}
+use Rattle.agreement.proofs.Acts.{own_commit, commit_is}
 
 pub outside-not : {X : Type 0} {s : List ℕ} → Outside ≡ Octets s → X
 outside-not e = let z : ◌≡◌ {A = ℕ} 0 1 = cc in absurd (omega arith)
@@ -108,5 +108,5 @@ module _ (gs s : List ℕ) (g n : ℕ) (r : read_body gs s ≡ body_is.Commit g 
       let y : length s ≡ 8 + n + commit_length k = h.total ∙ ap (λ (x : ℕ). 8 + n + commit_length x) w in
       let m : n ≡ length t = omega (arith, z, y, F.size) in
       let v : commit_of s g n ≡ c =
-      ap (λ (x : List ℕ). commit_of x g n) (sym F.octets) ∙ ap (λ (x : ℕ). commit_of (body 1 0 k t c) x n) w ∙ ap (λ (x : ℕ). commit_of (body 1 0 k t c) k x) m ∙ commit-back k t c F.size in
-      commit-is _ w (ap stored v ∙ P)
+      ap (λ (x : List ℕ). commit_of x g n) (sym F.octets) ∙ ap (λ (x : ℕ). commit_of (body 1 0 k t c) x n) w ∙ ap (λ (x : ℕ). commit_of (body 1 0 k t c) k x) m ∙ commit_back k t c F.size in
+      commit_is _ w (ap stored v ∙ P)

@@ -30,7 +30,7 @@ use Rattle.writer.proofs.Theorems as theorems
 use Rattle.agreement.specs.Calls.{Writing, write_parts, write_record, Call, Entry, AllHanded, more, writes, done, left, table_of, table_after, answer_of, stepped}
 use Rattle.agreement.specs.Story.{groups_in}
 use Rattle.agreement.specs.Sent.{drawn, expected_of, Among, SendsBy, writing, Written}
-use Rattle.agreement.proofs.Engine.{Ends, idles, goes_on, sets-up, frees, steps, call_ends}
+use Rattle.agreement.proofs.Engine.{Ends, idles, goes_on, sets_up, frees, steps, call_ends}
 use Rattle.agreement.proofs.History.{held_of}
 use Rattle.agreement.proofs.Wire.{outside-not}
 use Rattle.agreement.proofs.Deeds.{none-sent, kill-frames}
@@ -110,7 +110,7 @@ module _ (t : List ℕ) (s : sound t ≡ true) (octets out : List ℕ) where
 sends-sound : (t : List ℕ) (c : Call) (x : Frame) → Ends t c → done t c ≡ true → Among x (left t c).answer.frames → sound (table_after t c) ≡ true
 sends-sound t c x (idles d e) k m = absurd (clash k d)
 sends-sound t c x (goes_on d S) k m = absurd (clash k d)
-sends-sound t c x (sets-up d f y n i) k m = none-sent f m
+sends-sound t c x (sets_up d f y n i) k m = none-sent f m
 sends-sound t c x (frees {a} d M) k m = none-sent (kill-frames _ a M.answer) m
 sends-sound t c x (steps a o w d M D) k m = M.sound
 

@@ -47,19 +47,19 @@ pub record Octets (n : ℕ) (s : List ℕ) : Type 0 where
 pub data WritingHanded : Writing → Type 0 where
   of_parts : {sequence status group counter : ℕ} {token rest out : List ℕ} → sequence < 2 ^ 16 → status < 2 ^ 16 → group < 2 ^ 16 → counter < 2 ^ 16
       → Bytes token → Bytes rest → Bytes out → WritingHanded (write_parts sequence status group counter token rest out)
-  of-record : {address : List ℕ} {sequence : ℕ} {value out : List ℕ} → Octets 6 address → sequence < 2 ^ 16 → Bytes value → Bytes out
+  of_record : {address : List ℕ} {sequence : ℕ} {value out : List ℕ} → Octets 6 address → sequence < 2 ^ 16 → Bytes value → Bytes out
       → WritingHanded (write_record address sequence value out)
 
 pub data CallHanded : Call → Type 0 where
-  an-initialize : {size : ℕ} {buffer own settings : List ℕ} → Bytes buffer → Octets 6 own → Octets 16 settings → CallHanded (initialize size buffer own settings)
-  an-initiate : {address : List ℕ} {time : ℕ} {fresh : List ℕ} → Octets 6 address → time < 2 ^ 32 → Bytes fresh → CallHanded (initiate address time fresh)
-  a-kill : {address : List ℕ} → Octets 6 address → CallHanded (kill address)
-  a-receive : {address : List ℕ} {time : ℕ} {frame fresh expected : List ℕ} {verdict : ℕ}
+  an_initialize : {size : ℕ} {buffer own settings : List ℕ} → Bytes buffer → Octets 6 own → Octets 16 settings → CallHanded (initialize size buffer own settings)
+  an_initiate : {address : List ℕ} {time : ℕ} {fresh : List ℕ} → Octets 6 address → time < 2 ^ 32 → Bytes fresh → CallHanded (initiate address time fresh)
+  a_kill : {address : List ℕ} → Octets 6 address → CallHanded (kill address)
+  a_receive : {address : List ℕ} {time : ℕ} {frame fresh expected : List ℕ} {verdict : ℕ}
       → Octets 6 address → time < 2 ^ 32 → Bytes frame → Bytes fresh → Bytes expected → verdict < 2 ^ 8
       → CallHanded (receive address time frame fresh expected verdict)
-  an-expire : {time : ℕ} → time < 2 ^ 32 → CallHanded (expire time)
+  an_expire : {time : ℕ} → time < 2 ^ 32 → CallHanded (expire time)
   a_write : {w : Writing} → WritingHanded w → CallHanded (write w)
-  a-fill : CallHanded fill
+  a_fill : CallHanded fill
   a_move : {d : Direction} {target : List ℕ} → Bytes target → CallHanded (move d target)
 
 pub record Handed (e : Entry) : Type 0 where

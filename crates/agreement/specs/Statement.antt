@@ -58,7 +58,7 @@ SetTo n X h = (e : Entry) (before : List Entry) (size : ℕ) (buffer address set
 -- the link of a table's record says just what the story's link is
 pub data Says : Link → stored.Link → Type 0 where
   no-link : Says unlinked no_link
-  a-link : {p : Pair} {mark : Bool} {l : stored.Link}
+  a_link : {p : Pair} {mark : Bool} {l : stored.Link}
       → l.finished ≡ 1 → l.superseded ≡ bit mark → l.group ≡ p.group → l.own ≡ p.own → l.peer ≡ p.peer
       → Says (finished p mark) l
 

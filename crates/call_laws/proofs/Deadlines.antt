@@ -20,8 +20,8 @@ use Rattle.table.specs.Table.{decode_table, slot, look_by, look, sound, entry}
 use Rattle.table.proofs.Laws.{entry_at}
 use Rattle.rules.specs.Book.{has_run, has_link, Step, silence, on_start, on_frame, on_clock}
 use Rattle.rules.proofs.Ladders.{start-asked, frame-asked, clock-asked}
-use Rattle.rule_laws.specs.Deadlines.{Still, Ends, run_ends, link-ends}
-use Rattle.rule_laws.proofs.Deadlines.{StepMoves, still, has-sent, has_ended, act-moves}
+use Rattle.rule_laws.specs.Deadlines.{Still, Ends, run_ends, link_ends}
+use Rattle.rule_laws.proofs.Deadlines.{StepMoves, still, has_sent, has_ended, act-moves}
 use Rattle.rule_laws.proofs.Keeps.{Kept, parts}
 use Rattle.answers.specs.declared.Answer.{Answer}
 use Rattle.answers.specs.declared.Turn.{Turn}
@@ -29,9 +29,9 @@ use Rattle.answers.specs.declared.Turn.TheVariants.{Go}
 use Rattle.answers.specs.Answers.{Left, turned, said}
 use Rattle.answers.proofs.Ending.{Finished, Turned, denied, done, turn-ends}
 use Rattle.calls.specs.Calls.{start_turn, start_step, initiates, kill_turn, kill_step, kills, frame_turn, frame_step, receives, due_slot, clock_step, expires}
-use Rattle.call_laws.specs.Isolation.{PeerCall, initiate, kill, receive, expire, Handed, an-initiate, a-kill, a-receive, an-expire, left}
+use Rattle.call_laws.specs.Isolation.{PeerCall, initiate, kill, receive, expire, Handed, an_initiate, a_kill, a_receive, an_expire, left}
 use Rattle.call_laws.specs.Deadlines.{StillAt, Moves, sends, ends, Silent, is_kill}
-use Rattle.call_laws.proofs.Good.{groups_in, own_in, high_in, entered-kept, start-entered, kill-entered, frame-entered, no-run, initiate-good, kill-good, receive-good, due-kept, due-entry, expire-address}
+use Rattle.call_laws.proofs.Good.{groups_in, own_in, high_in, entered-kept, start-entered, kill-entered, frame-entered, no-run, initiate_good, kill_good, receive_good, due-kept, due-entry, expire_address}
 use Rattle.call_laws.proofs.Ends.{look-found, entered-finds, takes, clock-ends}
 use Rattle.call_laws.proofs.Sound.{expire-keeps-none}
 
@@ -48,7 +48,7 @@ module _ (t x : List ℕ) (k : Bool) (l : Left) (s : Step) (F : Finished t x s l
   moves-here : StepMoves k (look (decode_table t) x) s → (StillAt t x l → ⊥) → Moves t x k l
   unfolding said
   moves-here (still q) d = absurd (d (subst (Still (look (decode_table t) x)) (sym F.here) q))
-  moves-here (has-sent q) d = sends (ap (λ (r : Answer). r.address) F.answer) (λ e. q (sym (ap (λ (r : Answer). r.frames) F.answer) ∙ e))
+  moves-here (has_sent q) d = sends (ap (λ (r : Answer). r.address) F.answer) (λ e. q (sym (ap (λ (r : Answer). r.frames) F.answer) ∙ e))
   moves-here (has_ended q u) d =
       ends (ap (λ (r : Answer). r.address) F.answer) (subst (Ends (look (decode_table t) x)) (sym F.here) q)
       (λ e. u (sym (ap (λ (r : Answer). r.event) F.answer) ∙ e))
@@ -94,7 +94,7 @@ module _ (t x : List ℕ) (b : Bytes t) (lx : length x ≡ 6) (bx : Bytes x) whe
     where
       go : (u v : Bool) → has_run p ≡ u → has_link p ≡ v → (u || v) ≡ true → StepMoves true p kill_step
       go true v h i z = has_ended (run_ends h refl) (λ e. refl)
-      go false true h i z = has_ended (link-ends i refl) (λ e. refl)
+      go false true h i z = has_ended (link_ends i refl) (λ e. refl)
       go false false h i z = absurd (clash z refl)
 
   kill-moves : (f : Found) → kill_turn (entry t x) ≡ Go f → StepMoves true (look (decode_table t) x) kill_step
@@ -122,7 +122,7 @@ module _ (t : List ℕ) (time : ℕ) (b : Bytes t) (ht : time < 2 ^ 32) (a : Lis
   clock-moves found.Nothing e = λ d. absurd (d (unchanged-still t a (expires t time) (expire-keeps-none t time b e)))
   clock-moves (found.At k) e = elim (cases (sound t)) [
     | inl s ↦
-        let x = expire-address t time k b s e in
+        let x = expire_address t time k b s e in
         subst (λ (l : Left). (StillAt t a l → ⊥) → Moves t a false l) (sym (takes t time k s e))
         (step-moves t (slot (decode_table t) k).address false _ _ (clock-ends t time k s e b ht) a x.0 x.1 la ba (due-moves k s e))
     | inr n ↦ λ d. absurd (d (unchanged-still t a (expires t time) (unsound-clock n)))
@@ -132,15 +132,15 @@ module _ (t : List ℕ) (time : ℕ) (b : Bytes t) (ht : time < 2 ^ 32) (a : Lis
 -- frame, or the address's run or link ended; the answer tells the end, a kill's apart
 pub deadlines-move : (t a : List ℕ) (c : PeerCall) → Bytes t → length a ≡ 6 → Bytes a → Handed c → (StillAt t a (left t c) → ⊥) → Moves t a (is_kill c) (left t c)
 unfolding initiates kills receives
-deadlines-move t a (initiate address time fresh) b la ba (an-initiate lx bx ht bf) =
-    turn-moves _ _ t address a false lx bx la ba (turn-ends _ _ t address b lx bx (λ f e. initiate-good t address time fresh f b lx bx ht bf e)) (start-moves t address b lx bx time fresh)
-deadlines-move t a (kill address) b la ba (a-kill lx bx) =
-    turn-moves _ _ t address a true lx bx la ba (turn-ends _ _ t address b lx bx (λ f e. kill-good t address f b lx bx e)) (kill-moves t address b lx bx)
-deadlines-move t a (receive address time frame fresh expected verdict) b la ba (a-receive lx bx ht br bf be hv) =
+deadlines-move t a (initiate address time fresh) b la ba (an_initiate lx bx ht bf) =
+    turn-moves _ _ t address a false lx bx la ba (turn-ends _ _ t address b lx bx (λ f e. initiate_good t address time fresh f b lx bx ht bf e)) (start-moves t address b lx bx time fresh)
+deadlines-move t a (kill address) b la ba (a_kill lx bx) =
+    turn-moves _ _ t address a true lx bx la ba (turn-ends _ _ t address b lx bx (λ f e. kill_good t address f b lx bx e)) (kill-moves t address b lx bx)
+deadlines-move t a (receive address time frame fresh expected verdict) b la ba (a_receive lx bx ht br bf be hv) =
     turn-moves _ _ t address a false lx bx la ba
-    (turn-ends _ _ t address b lx bx (λ f e. receive-good t address time frame fresh expected verdict f b lx bx ht br bf be hv e))
+    (turn-ends _ _ t address b lx bx (λ f e. receive_good t address time frame fresh expected verdict f b lx bx ht br bf be hv e))
     (frame-moves t address b lx bx time frame fresh expected verdict)
-deadlines-move t a (expire time) b la ba (an-expire ht) = clock-moves t time b ht a la ba (due_slot (decode_table t) time) refl
+deadlines-move t a (expire time) b la ba (an_expire ht) = clock-moves t time b ht a la ba (due_slot (decode_table t) time) refl
 
 -- SO WHERE A CALL ANSWERS NEITHER FRAME NOR EVENT, a kill apart, every deadline of every address is what it was: a host need not set its timer anew
 pub silent-still : (t a : List ℕ) (c : PeerCall) → Bytes t → length a ≡ 6 → Bytes a → Handed c → is_kill c ≡ false → Silent (left t c) → StillAt t a (left t c)

@@ -32,7 +32,7 @@ use Rattle.answers.specs.Answers.{Left, ends, seating, finish_at, finishes, turn
 use Rattle.answers.proofs.Laws.{Entered, old, new}
 use Rattle.answers.proofs.Ending.{Finished, finish-ends}
 use Rattle.calls.specs.Calls.{initializes, due_slot, clock_step, expires_by, expires}
-use Rattle.call_laws.proofs.Good.{expire-good, expire-address}
+use Rattle.call_laws.proofs.Good.{expire_good, expire_address}
 
 -- ---- what an address comes to
 
@@ -134,7 +134,7 @@ module _ (t : List ℕ) (time k : ℕ) (s : sound t ≡ true) (e : due_slot (dec
   takes = rw (s, e)
 
   pub clock-ends : Bytes t → time < 2 ^ 32 → Finished t (slot (decode_table t) k).address (clock_step (decode_table t) k time) (due_left t time k)
-  clock-ends b ht = let six = expire-address t time k b s e in go (finish-ends t (slot (decode_table t) k).address b six.0 six.1 (found.At k) _ (expire-good t time k b ht s e))
+  clock-ends b ht = let six = expire_address t time k b s e in go (finish-ends t (slot (decode_table t) k).address b six.0 six.1 (found.At k) _ (expire_good t time k b ht s e))
     where
       go : (due_left t time k ≡ refuse t why.Full) ⊎ Finished t (slot (decode_table t) k).address (clock_step (decode_table t) k time) (due_left t time k)
           → Finished t (slot (decode_table t) k).address (clock_step (decode_table t) k time) (due_left t time k)

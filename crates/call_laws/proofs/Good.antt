@@ -318,13 +318,13 @@ module _ (t a : List ℕ) where
 -- ---- Good for every call
 
 pub no-run : (p : Peer) → p.run.state ≡ 0 → NoRun p
-no-run p e = record { not-committed = λ q. omega arith; not-confirmed = λ q. omega arith }
+no-run p e = record { not_committed = λ q. omega arith; not_confirmed = λ q. omega arith }
 
 -- Start
-pub initiate-good : (t a : List ℕ) (time : ℕ) (fresh : List ℕ) (f : Found) → Bytes t → length a ≡ 6 → Bytes a → time < 2 ^ 32 → Bytes fresh
+pub initiate_good : (t a : List ℕ) (time : ℕ) (fresh : List ℕ) (f : Found) → Bytes t → length a ≡ 6 → Bytes a → time < 2 ^ 32 → Bytes fresh
     → start_turn (entry t a) t fresh ≡ Go f → Good t a f (start_step (decode_table t) f a time fresh)
 unfolding start_step
-initiate-good t a time fresh f b la ba ht bf e =
+initiate_good t a time fresh f b la ba ht bf e =
     let w = start-entered t a fresh (entry t a) f refl e in
     let s = entered-sound t a f w.0 in
     let T = terms_of (decode_table t) f in
@@ -335,16 +335,16 @@ initiate-good t a time fresh f b la ba ht bf e =
     (λ v n. absurd (clash (start-refused T C (look_by (decode_table t) f) ∙ (unseated (decode_table t) f v).1) n))
 
 -- Kill
-pub kill-good : (t a : List ℕ) (f : Found) → Bytes t → length a ≡ 6 → Bytes a → kill_turn (entry t a) ≡ Go f → Good t a f kill_step
+pub kill_good : (t a : List ℕ) (f : Found) → Bytes t → length a ≡ 6 → Bytes a → kill_turn (entry t a) ≡ Go f → Good t a f kill_step
 unfolding kill_step
-kill-good t a f b la ba e = good_of t a f _ (kill-entered t a (entry t a) f refl e) (record { kept = kept_free (own_in t) (groups_in t) (high_in t) a }) (λ v n. refl)
+kill_good t a f b la ba e = good_of t a f _ (kill-entered t a (entry t a) f refl e) (record { kept = kept_free (own_in t) (groups_in t) (high_in t) a }) (λ v n. refl)
 
 -- Frame received
-pub receive-good : (t a : List ℕ) (time : ℕ) (frame fresh expected : List ℕ) (verdict : ℕ) (f : Found) → Bytes t → length a ≡ 6 → Bytes a → time < 2 ^ 32
+pub receive_good : (t a : List ℕ) (time : ℕ) (frame fresh expected : List ℕ) (verdict : ℕ) (f : Found) → Bytes t → length a ≡ 6 → Bytes a → time < 2 ^ 32
     → Bytes frame → Bytes fresh → Bytes expected → verdict < 2 ^ 8
     → frame_turn (entry t a) t frame fresh expected verdict ≡ Go f → Good t a f (frame_step (decode_table t) f a time frame fresh expected verdict)
 unfolding frame_step message
-receive-good t a time frame fresh expected verdict f b la ba ht br bf be hv e =
+receive_good t a time frame fresh expected verdict f b la ba ht br bf be hv e =
     let w = frame-entered t a frame fresh expected verdict (entry t a) f refl e in
     let s = entered-sound t a f w.0 in
     let T = terms_of (decode_table t) f in
@@ -397,13 +397,13 @@ module _ (t : List ℕ) (time k : ℕ) (b : Bytes t) (s : sound t ≡ true) (e :
   unfolding entry found_entry
   due-entry = let q = due-found (finds (decode_table t) (slot (decode_table t) k).address) refl in rw (s, due-place.usable, q)
 
-  pub expire-address : (length (slot (decode_table t) k).address ≡ 6) × Bytes (slot (decode_table t) k).address
-  expire-address = (due-kept.fits.address, due-kept.fits.bytes)
+  pub expire_address : (length (slot (decode_table t) k).address ≡ 6) × Bytes (slot (decode_table t) k).address
+  expire_address = (due-kept.fits.address, due-kept.fits.bytes)
 
-pub expire-good : (t : List ℕ) (time k : ℕ) → Bytes t → time < 2 ^ 32 → sound t ≡ true → due_slot (decode_table t) time ≡ found.At k
+pub expire_good : (t : List ℕ) (time k : ℕ) → Bytes t → time < 2 ^ 32 → sound t ≡ true → due_slot (decode_table t) time ≡ found.At k
     → Good t (slot (decode_table t) k).address (found.At k) (clock_step (decode_table t) k time)
 unfolding clock_step seating
-expire-good t time k b ht s e =
+expire_good t time k b ht s e =
     good_of t (slot (decode_table t) k).address (found.At k) _ (old (due-entry t time k b s e))
     (expire-keeps (terms_of (decode_table t) (found.At k)) (brings (slot (decode_table t) k).address (clock_of (decode_table t).header time) [] no_token false)
     (slot (decode_table t) k) (due-place t time k b s e) (sound-lists t s) (first-listed t s).0 (high-low t s) (due-kept t time k b s e))

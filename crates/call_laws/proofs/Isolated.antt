@@ -37,15 +37,15 @@ use Rattle.answers.proofs.Ending.{Turned, denied, done, turn-ends}
 use Rattle.writer.specs.Writer.{writes_parts, writes_record_by, writes_record}
 use Rattle.calls.specs.Calls.{terms_of, clock_of, initializes, admit_start, start_turn, start_step, initiates, kill_turn, kill_step, kills, admit_frame, frame_turn, frame_step, receives, due_slot, clock_step, expires}
 use Rattle.call_laws.specs.Alike.{SameFor, Alike}
-use Rattle.call_laws.proofs.Good.{initiate-good, kill-good, receive-good}
+use Rattle.call_laws.proofs.Good.{initiate_good, kill_good, receive_good}
 use Rattle.call_laws.proofs.Ends.{Came, came, unsound, unusable, lacks, has, finish-answer, said-not, due_left, due-answer, takes, clock-ends}
 
 -- ---- both tables come to the same
 
 pub data Met (t u a : List ℕ) : Entry → Entry → Type 0 where
   neither : Met t u a entry-is.Unusable entry-is.Unusable
-  lack-both : Met t u a entry-is.Absent entry-is.Absent
-  have-both : {k j : ℕ} → slot (decode_table t) k ≡ slot (decode_table u) j → Met t u a (entry-is.At k) (entry-is.At j)
+  lack_both : Met t u a entry-is.Absent entry-is.Absent
+  have_both : {k j : ℕ} → slot (decode_table t) k ≡ slot (decode_table u) j → Met t u a (entry-is.At k) (entry-is.At j)
 
 lacking : (T : Table) (a : List ℕ) → finds T a ≡ found.Nothing → (look T a).used ≡ 0
 unfolding look look_by no_peer
@@ -60,10 +60,10 @@ unfolding look look_by
 slot_of T a k e = ap (look_by T) (sym e)
 
 -- tables of the same first period and Sync limit have the same clock
-same-clock : (t u : List ℕ) (time : ℕ) → period_of (decode_table t).header.settings.period ≡ period_of (decode_table u).header.settings.period
+same_clock : (t u : List ℕ) (time : ℕ) → period_of (decode_table t).header.settings.period ≡ period_of (decode_table u).header.settings.period
     → limit_of (decode_table t).header.settings.limit ≡ limit_of (decode_table u).header.settings.limit
     → clock_of (decode_table t).header time ≡ clock_of (decode_table u).header time
-same-clock t u time p l = λ i. record { time = time; period = p i; limit = l i }
+same_clock t u time p l = λ i. record { time = time; period = p i; limit = l i }
 
 module _ (t u a : List ℕ) (S : SameFor t u a) where
   same-used : (look (decode_table t) a).used ≡ (look (decode_table u) a).used
@@ -73,7 +73,7 @@ module _ (t u a : List ℕ) (S : SameFor t u a) where
   same-usable = ap (λ (o : List ℕ). usable o a) S.own
 
   both : (k j : ℕ) → finds (decode_table t) a ≡ found.At k → finds (decode_table u) a ≡ found.At j → Met t u a (entry-is.At k) (entry-is.At j)
-  both k j f h = have-both (slot_of (decode_table t) a k f ∙ S.peer ∙ sym (slot_of (decode_table u) a j h))
+  both k j f h = have_both (slot_of (decode_table t) a k f ∙ S.peer ∙ sym (slot_of (decode_table u) a j h))
 
   met : (E F : Entry) → Came t a E → Came u a F → Met t u a E F
   met E F (unsound s) d = absurd (clash S.sound₁ s)
@@ -85,7 +85,7 @@ module _ (t u a : List ℕ) (S : SameFor t u a) where
   met E F (unusable s q) (has s₁ q₁ f) = absurd (clash (same-usable ∙ q₁) q)
   met E F (lacks s q f) (unusable s₁ q₁) = absurd (clash q (same-usable ∙ q₁))
   met E F (has s q f) (unusable s₁ q₁) = absurd (clash q (same-usable ∙ q₁))
-  met E F (lacks s q f) (lacks s₁ q₁ f₁) = lack-both
+  met E F (lacks s q f) (lacks s₁ q₁ f₁) = lack_both
   met E F (lacks s q f) (has {k} s₁ q₁ f₁) = absurd (omega (arith, same-used, lacking (decode_table t) a f, having (decode_table u) a k f₁))
   met E F (has {k} s q f) (lacks s₁ q₁ f₁) = absurd (omega (arith, same-used, having (decode_table t) a k f, lacking (decode_table u) a f₁))
   met E F (has s q f) (has s₁ q₁ f₁) = both _ _ f f₁
@@ -93,15 +93,15 @@ module _ (t u a : List ℕ) (S : SameFor t u a) where
 -- ---- turns that are alike
 
 pub data Paired (g h : Found → Step) : Turn → Turn → Type 0 where
-  both-refuse : {c : Refusal} → Paired g h (Refused c) (Refused c)
+  both_refuse : {c : Refusal} → Paired g h (Refused c) (Refused c)
   both_go : {f₁ k₁ : Found} → g f₁ ≡ h k₁ → Paired g h (Go f₁) (Go k₁)
 
 paired-if : (g h : Found → Step) (b : Bool) (c : Refusal) (w x : Turn) → Paired g h w x → Paired g h (if b then Refused c else w) (if b then Refused c else x)
-paired-if g h true c w x p = both-refuse
+paired-if g h true c w x p = both_refuse
 paired-if g h false c w x p = p
 
 paired-go : (g h : Found → Step) (w x : Turn) (f k : Found) → Paired g h w x → w ≡ Go f → x ≡ Go k → g f ≡ h k
-paired-go g h w x f k both-refuse p q = clashed p
+paired-go g h w x f k both_refuse p q = clashed p
 paired-go g h w x f k (both_go {f₁} {k₁} e) p q =
     let i : f₁ ≡ f = cc in
     let j : k₁ ≡ k = cc in
@@ -111,7 +111,7 @@ module _ (g h : Found → Step) (t u a : List ℕ) where
   -- THE SAME ANSWER
   paired-answer : (w x : Turn) → Paired g h w x → (turned w g t a).answer ≡ (turned x h u a).answer
   unfolding turned
-  paired-answer w x (both-refuse {c}) = refl
+  paired-answer w x (both_refuse {c}) = refl
   paired-answer w x (both_go {f₁} {k₁} e) =
       finish-answer t f₁ (g f₁) a ∙ ap (λ (s : Step). if s.refused then refused why.Full else said s a) e ∙ sym (finish-answer u k₁ (h k₁) a)
 
@@ -157,16 +157,16 @@ module _ (t u a : List ℕ) (A : Alike t u a) where
   unfolding start_step
   start-same time fresh f k n q =
       let e = terms-same t u a A f k n in
-      let κ = same-clock t u time A.same.period A.same.limit in
+      let κ = same_clock t u time A.same.period A.same.limit in
       let w = A.same.width in
       rw (q, e, κ, w)
 
   start-paired : (time : ℕ) (fresh : List ℕ) (E F : Entry) → Met t u a E F
       → Paired (λ f. start_step (decode_table t) f a time fresh) (λ f. start_step (decode_table u) f a time fresh) (start_turn E t fresh) (start_turn F u fresh)
   unfolding start_turn look_by
-  start-paired time fresh E F neither = both-refuse
-  start-paired time fresh E F lack-both = admit-start-paired _ _ (decode_table t) (decode_table u) found.Nothing found.Nothing fresh A.same.groups A.same.width refl (start-same time fresh found.Nothing found.Nothing refl refl)
-  start-paired time fresh E F (have-both {k} {j} q) =
+  start-paired time fresh E F neither = both_refuse
+  start-paired time fresh E F lack_both = admit-start-paired _ _ (decode_table t) (decode_table u) found.Nothing found.Nothing fresh A.same.groups A.same.width refl (start-same time fresh found.Nothing found.Nothing refl refl)
+  start-paired time fresh E F (have_both {k} {j} q) =
       admit-start-paired _ _ (decode_table t) (decode_table u) (found.At k) (found.At j) fresh A.same.groups A.same.width q (start-same time fresh (found.At k) (found.At j) refl q)
 
 pub initiate-isolated : (t u a : List ℕ) (time : ℕ) (fresh : List ℕ) → Bytes t → Bytes u → length a ≡ 6 → Bytes a → time < 2 ^ 32 → Bytes fresh → Alike t u a
@@ -174,23 +174,23 @@ pub initiate-isolated : (t u a : List ℕ) (time : ℕ) (fresh : List ℕ) → B
 unfolding initiates
 initiate-isolated t u a time fresh bt bu la ba ht bf A =
     isolated _ _ t u a _ _ A.same (start-paired t u a A time fresh (entry t a) (entry u a) (met t u a A.same (entry t a) (entry u a) (came t a) (came u a)))
-    (turn-ends _ _ t a bt la ba (λ f e. initiate-good t a time fresh f bt la ba ht bf e))
-    (turn-ends _ _ u a bu la ba (λ f e. initiate-good u a time fresh f bu la ba ht bf e))
+    (turn-ends _ _ t a bt la ba (λ f e. initiate_good t a time fresh f bt la ba ht bf e))
+    (turn-ends _ _ u a bu la ba (λ f e. initiate_good u a time fresh f bu la ba ht bf e))
 
 -- ---- Kill
 
 kill-paired : (t u a : List ℕ) (E F : Entry) → Met t u a E F → Paired (λ f. kill_step) (λ f. kill_step) (kill_turn E) (kill_turn F)
 unfolding kill_turn
-kill-paired t u a E F neither = both-refuse
-kill-paired t u a E F lack-both = both-refuse
-kill-paired t u a E F (have-both q) = both_go refl
+kill-paired t u a E F neither = both_refuse
+kill-paired t u a E F lack_both = both_refuse
+kill-paired t u a E F (have_both q) = both_go refl
 
 pub kill-isolated : (t u a : List ℕ) → Bytes t → Bytes u → length a ≡ 6 → Bytes a → SameFor t u a → Isolated a (kills t a) (kills u a)
 unfolding kills
 kill-isolated t u a bt bu la ba S =
     isolated _ _ t u a _ _ S (kill-paired t u a (entry t a) (entry u a) (met t u a S (entry t a) (entry u a) (came t a) (came u a)))
-    (turn-ends _ _ t a bt la ba (λ f e. kill-good t a f bt la ba e))
-    (turn-ends _ _ u a bu la ba (λ f e. kill-good u a f bu la ba e))
+    (turn-ends _ _ t a bt la ba (λ f e. kill_good t a f bt la ba e))
+    (turn-ends _ _ u a bu la ba (λ f e. kill_good u a f bu la ba e))
 
 -- ---- Frame received
 
@@ -210,7 +210,7 @@ module _ (t u a : List ℕ) (A : Alike t u a) (time : ℕ) (frame fresh expected
   unfolding frame_step
   frame_same f k n q =
       let e = terms-same t u a A f k n in
-      let κ = same-clock t u time A.same.period A.same.limit in
+      let κ = same_clock t u time A.same.period A.same.limit in
       let g = A.same.groups in
       let w = A.same.width in
       rw (q, e, κ, g, w)
@@ -219,11 +219,11 @@ module _ (t u a : List ℕ) (A : Alike t u a) (time : ℕ) (frame fresh expected
       → Paired (λ f. frame_step (decode_table t) f a time frame fresh expected verdict) (λ f. frame_step (decode_table u) f a time frame fresh expected verdict)
       (frame_turn E t frame fresh expected verdict) (frame_turn F u frame fresh expected verdict)
   unfolding frame_turn look_by
-  frame-paired E F neither = both-refuse
-  frame-paired E F lack-both =
+  frame-paired E F neither = both_refuse
+  frame-paired E F lack_both =
       admit-frame-paired _ _ (decode_table t) (decode_table u) found.Nothing found.Nothing frame fresh expected verdict A.same.groups A.same.width
       (frame_same found.Nothing found.Nothing refl refl)
-  frame-paired E F (have-both {k} {j} q) =
+  frame-paired E F (have_both {k} {j} q) =
       admit-frame-paired _ _ (decode_table t) (decode_table u) (found.At k) (found.At j) frame fresh expected verdict A.same.groups A.same.width
       (frame_same (found.At k) (found.At j) refl q)
 
@@ -233,8 +233,8 @@ pub receive-isolated : (t u a : List ℕ) (time : ℕ) (frame fresh expected : L
 unfolding receives
 receive-isolated t u a time frame fresh expected verdict bt bu la ba ht br bf be hv A =
     isolated _ _ t u a _ _ A.same (frame-paired t u a A time frame fresh expected verdict (entry t a) (entry u a) (met t u a A.same (entry t a) (entry u a) (came t a) (came u a)))
-    (turn-ends _ _ t a bt la ba (λ f e. receive-good t a time frame fresh expected verdict f bt la ba ht br bf be hv e))
-    (turn-ends _ _ u a bu la ba (λ f e. receive-good u a time frame fresh expected verdict f bu la ba ht br bf be hv e))
+    (turn-ends _ _ t a bt la ba (λ f e. receive_good t a time frame fresh expected verdict f bt la ba ht br bf be hv e))
+    (turn-ends _ _ u a bu la ba (λ f e. receive_good u a time frame fresh expected verdict f bu la ba ht br bf be hv e))
 
 -- ---- Clock: given which record it takes, that record and the reading alone
 
@@ -260,7 +260,7 @@ pub expire-isolated : (t u : List ℕ) (time k j : ℕ) → Bytes t → Bytes u 
     → Isolated (slot (decode_table t) k).address (expires t time) (expires u time)
 expire-isolated t u time k j bt bu ht st su ep el et eu q =
     rw (takes t time k st et, takes u time j su eu)
-    (let w = clock-same (decode_table t) (decode_table u) k j time (same-clock t u time ep el) q in
+    (let w = clock-same (decode_table t) (decode_table u) k j time (same_clock t u time ep el) q in
     record {
       answer = due-answer t time k ∙ ap (λ (s : Step). said s (slot (decode_table t) k).address) w ∙ ap (λ (p : Peer). said (clock_step (decode_table u) j time) p.address) q
           ∙ sym (due-answer u time j);
@@ -289,8 +289,8 @@ write-record-met : (t u a : List ℕ) (sequence : ℕ) (value out : List ℕ) (E
     → writes_record_by E t sequence value out ≡ writes_record_by F u sequence value out
 unfolding writes_record_by
 write-record-met t u a sequence value out E F g neither = refl
-write-record-met t u a sequence value out E F g lack-both = refl
-write-record-met t u a sequence value out E F g (have-both q) = rw (g, q)
+write-record-met t u a sequence value out E F g lack_both = refl
+write-record-met t u a sequence value out E F g (have_both q) = rw (g, q)
 
 pub write-record-isolated : (t u a : List ℕ) (sequence : ℕ) (value out : List ℕ) → SameFor t u a → writes_record t a sequence value out ≡ writes_record u a sequence value out
 unfolding writes_record

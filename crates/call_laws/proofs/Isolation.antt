@@ -25,9 +25,9 @@ use Rattle.initial.proofs.Initial.{FitSettings, initial-slot, initial-served, in
 use Rattle.writer.specs.Writer.{writes_record}
 use Rattle.calls.specs.Calls.{crowded, full, initializes, due_slot, expires}
 use Rattle.call_laws.specs.Alike.{SameFor, Alike}
-use Rattle.call_laws.specs.Isolation.{PeerCall, initiate, kill, receive, expire, Handed, an-initiate, a-kill, a-receive, an-expire, AllHanded, none, more}
+use Rattle.call_laws.specs.Isolation.{PeerCall, initiate, kill, receive, expire, Handed, an_initiate, a_kill, a_receive, an_expire, AllHanded, none, more}
 use Rattle.call_laws.specs.Isolation.{left, after, about, Reach, reach, reaches, answers, Isolation}
-use Rattle.call_laws.proofs.Good.{due-used, due-entry, expire-address}
+use Rattle.call_laws.proofs.Good.{due-used, due-entry, expire_address}
 use Rattle.call_laws.proofs.Ends.{look-found, set-up-leaves}
 use Rattle.call_laws.proofs.Sound.{Keeping, initiate-keeps, kill-keeps, receive-keeps, expire-keeps-due, expire-keeps-none, initialize-makes}
 use Rattle.call_laws.proofs.Isolated.{Isolated, initiate-isolated, kill-isolated, receive-isolated, expire-isolated, write-record-isolated}
@@ -95,11 +95,11 @@ module _ (t b u : List ℕ) (K : Keeping t b u) where
       record { sound = K.table.sound; bytes = K.bytes; own = own-kept; groups = groups-kept; width = width-kept; period = period-kept; limit = limit-kept }
 
 pub call_stays : (t : List ℕ) (c : PeerCall) → Bytes t → sound t ≡ true → Handed c → Stays t (left t c).table
-call_stays t (initiate address time fresh) b s (an-initiate la ba ht bf) = keeping-stays t address _ (initiate-keeps t address time fresh b la ba ht bf s)
-call_stays t (kill address) b s (a-kill la ba) = keeping-stays t address _ (kill-keeps t address b la ba s)
-call_stays t (receive address time frame fresh expected verdict) b s (a-receive la ba ht br bf be hv) =
+call_stays t (initiate address time fresh) b s (an_initiate la ba ht bf) = keeping-stays t address _ (initiate-keeps t address time fresh b la ba ht bf s)
+call_stays t (kill address) b s (a_kill la ba) = keeping-stays t address _ (kill-keeps t address b la ba s)
+call_stays t (receive address time frame fresh expected verdict) b s (a_receive la ba ht br bf be hv) =
     keeping-stays t address _ (receive-keeps t address time frame fresh expected verdict b la ba ht br bf be hv s)
-call_stays t (expire time) b s (an-expire ht) = go (due_slot (decode_table t) time) refl
+call_stays t (expire time) b s (an_expire ht) = go (due_slot (decode_table t) time) refl
   where
     go : (f : Found) → due_slot (decode_table t) time ≡ f → Stays t (expires t time).table
     go (found.At k) e = keeping-stays t (slot (decode_table t) k).address _ (expire-keeps-due t time k b ht s e)
@@ -124,11 +124,11 @@ module _ (t a : List ℕ) (b : Bytes t) (s : sound t ≡ true) where
   other-expire time found.Nothing ht e n = ap (λ (u : List ℕ). look (decode_table u) a) (expire-keeps-none t time b e)
 
   other-keeps : (c : PeerCall) → Handed c → about a t c ≡ false → look (decode_table (left t c).table) a ≡ look (decode_table t) a
-  other-keeps (initiate address time fresh) (an-initiate la ba ht bf) n = (initiate-keeps t address time fresh b la ba ht bf s).elsewhere a n
-  other-keeps (kill address) (a-kill la ba) n = (kill-keeps t address b la ba s).elsewhere a n
-  other-keeps (receive address time frame fresh expected verdict) (a-receive la ba ht br bf be hv) n =
+  other-keeps (initiate address time fresh) (an_initiate la ba ht bf) n = (initiate-keeps t address time fresh b la ba ht bf s).elsewhere a n
+  other-keeps (kill address) (a_kill la ba) n = (kill-keeps t address b la ba s).elsewhere a n
+  other-keeps (receive address time frame fresh expected verdict) (a_receive la ba ht br bf be hv) n =
       (receive-keeps t address time frame fresh expected verdict b la ba ht br bf be hv s).elsewhere a n
-  other-keeps (expire time) (an-expire ht) n = other-expire time (due_slot (decode_table t) time) ht refl n
+  other-keeps (expire time) (an_expire ht) n = other-expire time (due_slot (decode_table t) time) ht refl n
 
 -- ---- the same call about the address, at two tables that are the same for it
 
@@ -137,7 +137,7 @@ module _ (t a : List ℕ) (b : Bytes t) (s : sound t ≡ true) (la : length a �
     (m : belongs a (slot (decode_table t) k) ≡ true) where
   taken-address : (slot (decode_table t) k).address ≡ a
   unfolding belongs
-  taken-address = let x = expire-address t time k b s e in same-address _ a (x.0 ∙ sym la) x.1 ba (and_right (in_use (slot (decode_table t) k)) _ m)
+  taken-address = let x = expire_address t time k b s e in same-address _ a (x.0 ∙ sym la) x.1 ba (and_right (in_use (slot (decode_table t) k)) _ m)
 
   taken-record : slot (decode_table t) k ≡ look (decode_table t) a
   unfolding look_by
@@ -164,14 +164,14 @@ module _ (t u a : List ℕ) (bt : Bytes t) (bu : Bytes u) (la : length a ≡ 6) 
   alike p q = record { same = S; crowded = p; full = q }
 
   same-call : (c : PeerCall) → Handed c → about a t c ≡ true → about a u c ≡ true → reach t c ≡ reach u c → Isolated a (left t c) (left u c)
-  same-call (initiate address time fresh) (an-initiate lb bb ht bf) m n e =
+  same-call (initiate address time fresh) (an_initiate lb bb ht bf) m n e =
       let A = alike (ap (λ (r : Reach). r.crowded) e) (ap (λ (r : Reach). r.full) e) in
       rw (given address lb bb m) (initiate-isolated t u a time fresh bt bu la ba ht bf A)
-  same-call (kill address) (a-kill lb bb) m n e = rw (given address lb bb m) (kill-isolated t u a bt bu la ba S)
-  same-call (receive address time frame fresh expected verdict) (a-receive lb bb ht br bf be hv) m n e =
+  same-call (kill address) (a_kill lb bb) m n e = rw (given address lb bb m) (kill-isolated t u a bt bu la ba S)
+  same-call (receive address time frame fresh expected verdict) (a_receive lb bb ht br bf be hv) m n e =
       let A = alike (ap (λ (r : Reach). r.crowded) e) (ap (λ (r : Reach). r.full) e) in
       rw (given address lb bb m) (receive-isolated t u a time frame fresh expected verdict bt bu la ba ht br bf be hv A)
-  same-call (expire time) (an-expire ht) m n e = same-expire time (due_slot (decode_table t) time) (due_slot (decode_table u) time) ht refl refl m n
+  same-call (expire time) (an_expire ht) m n e = same-expire time (due_slot (decode_table t) time) (due_slot (decode_table u) time) ht refl refl m n
 
 -- ---- what a call adds to what reaches the address, and to its answers
 

@@ -49,11 +49,11 @@ use Rattle.moves.specs.declared.Direction.{Direction}
 use Rattle.moves.specs.declared.Direction.TheVariants.{Forward, Back}
 use Rattle.moves.specs.Moves.{source_form, target_form, resized, moved, SameContents, is_of, hindered, hindrance, fitting, Moved, refuse_move, moves}
 use Rattle.moves.proofs.Laws.{moved_same, moved-size, movable, source-size}
-use Rattle.call_laws.specs.Isolation.{an-initiate, a-kill, a-receive, an-expire}
-use Rattle.call_laws.specs.Moves.{SameStock, same_parts, both-wrong, Further, answered, filled-so, wrote, told, reply, leaves, after_all, replies}
-use Rattle.call_laws.specs.Moves.{HandedOver, a_call, a-fill, a-parts, a-record, a-frame, a-question, a-time, AllHandedOver, none, more, refilled}
-use Rattle.call_laws.specs.Moves.{Partner, same_start, same-kill, same-frame, same-clock, same-fill, same-parts-written, same-record-written, same_read, same_good, same-deadline, Partners, both_end, both-more, AnsweredAlike}
-use Rattle.call_laws.proofs.Good.{groups_in, commits-stock, go_same, start-entered, frame-entered, initiate-good, kill-good, receive-good, expire-good, expire-address}
+use Rattle.call_laws.specs.Isolation.{an_initiate, a_kill, a_receive, an_expire}
+use Rattle.call_laws.specs.Moves.{SameStock, same_parts, both_wrong, Further, answered, filled_so, wrote, told, reply, leaves, after_all, replies}
+use Rattle.call_laws.specs.Moves.{HandedOver, a_call, a_fill, a_parts, a_record, a_frame, a_question, a_time, AllHandedOver, none, more, refilled}
+use Rattle.call_laws.specs.Moves.{Partner, same_start, same_kill, same_frame, same_clock, same_fill, same_parts_written, same_record_written, same_read, same_good, same_deadline, Partners, both_end, both_more, AnsweredAlike}
+use Rattle.call_laws.proofs.Good.{groups_in, commits-stock, go_same, start-entered, frame-entered, initiate_good, kill_good, receive_good, expire_good, expire_address}
 use Rattle.call_laws.proofs.Ends.{finish-answer, due_left, takes}
 use Rattle.call_laws.proofs.Sound.{turn-keeps, expire-keeps-none}
 use Rattle.call_laws.proofs.Isolated.{write-parts-isolated}
@@ -93,12 +93,12 @@ module _ (W W' : ℕ) (gs s z : List ℕ) where
   fresh-alike : SameStock W W' (length gs) s z → fresh_ok W' gs z ≡ fresh_ok W gs s
   unfolding fresh_ok
   fresh-alike (same_parts p q e) = rw (eq-eqb _ _ p, eq-eqb _ _ q, e) refl
-  fresh-alike (both-wrong p q) = rw (ne_eqb _ _ p, ne_eqb _ _ q) refl
+  fresh-alike (both_wrong p q) = rw (ne_eqb _ _ p, ne_eqb _ _ q) refl
 
   stock-alike : SameStock W W' (length gs) s z → fresh_ok W gs s ≡ true → fresh_of W' z ≡ fresh_of W s
   unfolding fresh_ok
   stock-alike (same_parts p q e) o = sym e
-  stock-alike (both-wrong p q) o = absurd (p (eqb-true _ _ (and_left _ _ o)))
+  stock-alike (both_wrong p q) o = absurd (p (eqb-true _ _ (and_left _ _ o)))
 
 -- ---- what a call comes to, and its step
 
@@ -259,8 +259,8 @@ module _ (t u : List ℕ) (S : SameContents t u) where
       (λ f e.
       let o = (start-entered t a s (entry t a) f refl e).1 in
       sym (start-step-alike (decode_table t) (decode_table u) size S.table s z P f a time (stock-alike (width_of t) (width_of u) (groups_in t) s z P o)))
-      (λ f e. initiate-good t a time s f S.bytes₁ la ba ht bs e)
-      (λ f e. initiate-good u a time z f S.bytes₂ la ba ht bz (same ∙ e)))
+      (λ f e. initiate_good t a time s f S.bytes₁ la ba ht bs e)
+      (λ f e. initiate_good u a time z f S.bytes₂ la ba ht bz (same ∙ e)))
 
   -- Kill
   kill-alike : (a : List ℕ) → length a ≡ 6 → Bytes a → AlikeLeft (kills t a) (kills u a)
@@ -268,8 +268,8 @@ module _ (t u : List ℕ) (S : SameContents t u) where
   kill-alike a la ba =
       let same : kill_turn (entry u a) ≡ kill_turn (entry t a) = ap kill_turn (entry-alike a) in
       rw same
-      (turn-alike a la ba (λ f. kill_step) (λ f. kill_step) (kill_turn (entry t a)) (λ f e. refl) (λ f e. kill-good t a f S.bytes₁ la ba e)
-      (λ f e. kill-good u a f S.bytes₂ la ba (same ∙ e)))
+      (turn-alike a la ba (λ f. kill_step) (λ f. kill_step) (kill_turn (entry t a)) (λ f e. refl) (λ f e. kill_good t a f S.bytes₁ la ba e)
+      (λ f e. kill_good u a f S.bytes₂ la ba (same ∙ e)))
 
   -- Frame received
   module _ (frame s z expected : List ℕ) (verdict : ℕ) (P : SameStock (width_of t) (width_of u) (length (groups_in t)) s z) where
@@ -292,8 +292,8 @@ module _ (t u : List ℕ) (S : SameContents t u) where
         (λ f e.
         let o = (frame-entered t a frame s expected verdict (entry t a) f refl e).1 in
         sym (frame-step-alike (decode_table t) (decode_table u) size S.table s z P f a time frame expected verdict (stock-alike (width_of t) (width_of u) (groups_in t) s z P o)))
-        (λ f e. receive-good t a time frame s expected verdict f S.bytes₁ la ba ht br bs be hv e)
-        (λ f e. receive-good u a time frame z expected verdict f S.bytes₂ la ba ht br bz be hv (same ∙ e)))
+        (λ f e. receive_good t a time frame s expected verdict f S.bytes₁ la ba ht br bs be hv e)
+        (λ f e. receive_good u a time frame z expected verdict f S.bytes₂ la ba ht br bz be hv (same ∙ e)))
 
   -- Clock: the same record, or none
   due-alike : (time : ℕ) → due_slot (decode_table u) time ≡ due_slot (decode_table t) time
@@ -305,9 +305,9 @@ module _ (t u : List ℕ) (S : SameContents t u) where
     expire-due-alike k e =
         let d : due_slot (decode_table u) time ≡ found.At k = due-alike time ∙ e in
         let q : slot (decode_table u) k ≡ slot (decode_table t) k = slot-alike (decode_table t) (decode_table u) size S.table k in
-        let six = expire-address t time k S.bytes₁ S.sound₁ e in
-        let G = expire-good t time k S.bytes₁ ht S.sound₁ e in
-        let H = subst (λ (p : Peer). Good u p.address (found.At k) (clock_step (decode_table u) k time)) q (expire-good u time k S.bytes₂ ht S.sound₂ d) in
+        let six = expire_address t time k S.bytes₁ S.sound₁ e in
+        let G = expire_good t time k S.bytes₁ ht S.sound₁ e in
+        let H = subst (λ (p : Peer). Good u p.address (found.At k) (clock_step (decode_table u) k time)) q (expire_good u time k S.bytes₂ ht S.sound₂ d) in
         subst (λ (p : Peer). AlikeLeft (due_left t time k) (finishes u (found.At k) (clock_step (decode_table u) k time) p.address)) (sym q)
         (turn-alike (slot (decode_table t) k).address six.0 six.1 (λ f. clock_step (decode_table t) k time) (λ f. clock_step (decode_table u) k time) (Go (found.At k))
         (λ f w. sym (clock-step-alike (decode_table t) (decode_table u) size S.table k time))
@@ -365,41 +365,41 @@ module _ (t u : List ℕ) (S : SameContents t u) where
   -- ---- every further call: the same reply, and tables that stay alike
 
   further-replies : (c d : Further) → Partner (width_of t) (width_of u) (length (groups_in t)) c d → HandedOver c → HandedOver d → reply t c ≡ reply u d
-  further-replies c d (same_start P) (a_call (an-initiate la ba ht bs)) (a_call (an-initiate ma ca it bz)) = ap answered (initiate-alike _ _ _ _ la ba ht bs bz P).answer
-  further-replies c d same-kill (a_call (a-kill la ba)) k = ap answered (kill-alike _ la ba).answer
-  further-replies c d (same-frame P) (a_call (a-receive la ba ht br bs be hv)) (a_call (a-receive ma ca it cr bz ce iv)) =
+  further-replies c d (same_start P) (a_call (an_initiate la ba ht bs)) (a_call (an_initiate ma ca it bz)) = ap answered (initiate-alike _ _ _ _ la ba ht bs bz P).answer
+  further-replies c d same_kill (a_call (a_kill la ba)) k = ap answered (kill-alike _ la ba).answer
+  further-replies c d (same_frame P) (a_call (a_receive la ba ht br bs be hv)) (a_call (a_receive ma ca it cr bz ce iv)) =
       ap answered (receive-alike _ _ _ _ _ P _ _ la ba ht br bs bz be hv).answer
-  further-replies c d same-clock (a_call (an-expire ht)) k = ap answered (expire-alike _ ht).answer
-  further-replies c d same-fill h k = ap filled-so (fill_done t S.bytes₁ S.sound₁ ∙ sym (fill_done u S.bytes₂ S.sound₂))
-  further-replies c d same-parts-written h k = ap wrote (write-parts-alike _ _ _ _ _ _ _)
-  further-replies c d same-record-written h k = ap wrote (write-record-alike _ _ _ _)
+  further-replies c d same_clock (a_call (an_expire ht)) k = ap answered (expire-alike _ ht).answer
+  further-replies c d same_fill h k = ap filled_so (fill_done t S.bytes₁ S.sound₁ ∙ sym (fill_done u S.bytes₂ S.sound₂))
+  further-replies c d same_parts_written h k = ap wrote (write-parts-alike _ _ _ _ _ _ _)
+  further-replies c d same_record_written h k = ap wrote (write-record-alike _ _ _ _)
   further-replies c d same_read h k = rw (S.sound₁, S.sound₂, groups-alike (decode_table t) (decode_table u) size S.table) refl
   further-replies c d same_good h k = ap told good-alike
-  further-replies c d same-deadline h k = ap told (deadline-alike _)
+  further-replies c d same_deadline h k = ap told (deadline-alike _)
 
   further-leaves : (c d : Further) → Partner (width_of t) (width_of u) (length (groups_in t)) c d → HandedOver c → HandedOver d → SameContents (leaves t c) (leaves u d)
-  further-leaves c d (same_start P) (a_call (an-initiate la ba ht bs)) (a_call (an-initiate ma ca it bz)) = (initiate-alike _ _ _ _ la ba ht bs bz P).left
-  further-leaves c d same-kill (a_call (a-kill la ba)) k = (kill-alike _ la ba).left
-  further-leaves c d (same-frame P) (a_call (a-receive la ba ht br bs be hv)) (a_call (a-receive ma ca it cr bz ce iv)) =
+  further-leaves c d (same_start P) (a_call (an_initiate la ba ht bs)) (a_call (an_initiate ma ca it bz)) = (initiate-alike _ _ _ _ la ba ht bs bz P).left
+  further-leaves c d same_kill (a_call (a_kill la ba)) k = (kill-alike _ la ba).left
+  further-leaves c d (same_frame P) (a_call (a_receive la ba ht br bs be hv)) (a_call (a_receive ma ca it cr bz ce iv)) =
       (receive-alike _ _ _ _ _ P _ _ la ba ht br bs bz be hv).left
-  further-leaves c d same-clock (a_call (an-expire ht)) k = (expire-alike _ ht).left
-  further-leaves c d same-fill h k = rw (fills-sound t S.bytes₁ S.sound₁, fills-sound u S.bytes₂ S.sound₂) S
-  further-leaves c d same-parts-written h k = S
-  further-leaves c d same-record-written h k = S
+  further-leaves c d same_clock (a_call (an_expire ht)) k = (expire-alike _ ht).left
+  further-leaves c d same_fill h k = rw (fills-sound t S.bytes₁ S.sound₁, fills-sound u S.bytes₂ S.sound₂) S
+  further-leaves c d same_parts_written h k = S
+  further-leaves c d same_record_written h k = S
   further-leaves c d same_read h k = S
   further-leaves c d same_good h k = S
-  further-leaves c d same-deadline h k = S
+  further-leaves c d same_deadline h k = S
 
 -- ---- the width and the groups of a table stay
 
 further-stays : (t : List ℕ) (c : Further) → Bytes t → sound t ≡ true → HandedOver c → Stays t (leaves t c)
 further-stays t f b s (a_call {c} h) = call_stays t c b s h
-further-stays t f b s a-fill = subst (Stays t) (sym (fills-sound t b s)) (stays-itself t b s)
-further-stays t f b s a-parts = stays-itself t b s
-further-stays t f b s a-record = stays-itself t b s
-further-stays t f b s a-frame = stays-itself t b s
-further-stays t f b s a-question = stays-itself t b s
-further-stays t f b s a-time = stays-itself t b s
+further-stays t f b s a_fill = subst (Stays t) (sym (fills-sound t b s)) (stays-itself t b s)
+further-stays t f b s a_parts = stays-itself t b s
+further-stays t f b s a_record = stays-itself t b s
+further-stays t f b s a_frame = stays-itself t b s
+further-stays t f b s a_question = stays-itself t b s
+further-stays t f b s a_time = stays-itself t b s
 
 after-all-stays : (t : List ℕ) (cs : List Further) → Bytes t → sound t ≡ true → AllHandedOver cs → Stays t (after_all t cs)
 unfolding after_all
@@ -423,7 +423,7 @@ unfolding after_all replies
 further-alike t u [] [] S both_end none none = record { replies = refl; left = S }
 further-alike t u [] (d ∷ ds) S p _ _ = elim p [ ]
 further-alike t u (c ∷ cs) [] S p _ _ = elim p [ ]
-further-alike t u (c ∷ cs) (d ∷ ds) S (both-more P Ps) (more h hs) (more k ks) =
+further-alike t u (c ∷ cs) (d ∷ ds) S (both_more P Ps) (more h hs) (more k ks) =
     let A = further-alike t u cs ds S Ps hs ks in
     let Q = partner-stays t u (after_all t cs) (after_all u ds) c d (after-all-stays t cs S.bytes₁ S.sound₁ hs) (after-all-stays u ds S.bytes₂ S.sound₂ ks) P in
     let x : reply (after_all t cs) c ≡ reply (after_all u ds) d = further-replies (after_all t cs) (after_all u ds) A.left c d Q h k in

@@ -336,10 +336,10 @@ abbrev pub returned_by : Wrote → ℕ
 returned_by (wrote.Length n) = 0
 returned_by (wrote.Refused c) = number c
 
-draws-answer : (d : Drawn) (out : List ℕ) → (draws d out).answer ≡ (if outside d then wrote.Refused why.Body else if longer d out then wrote.Refused why.Short else wrote.Length (drawn_length d))
+draws_answer : (d : Drawn) (out : List ℕ) → (draws d out).answer ≡ (if outside d then wrote.Refused why.Body else if longer d out then wrote.Refused why.Short else wrote.Length (drawn_length d))
 unfolding draws written
-draws-answer Outside out = refl
-draws-answer (Octets s) out = go (ltb (length out) (length s))
+draws_answer Outside out = refl
+draws_answer (Octets s) out = go (ltb (length out) (length s))
   where
     go : (b : Bool) → wrote_of (if b then written_is.Short else written_is.Length (length s)) ≡ (if b then wrote.Refused why.Short else wrote.Length (length s))
     go true = refl
@@ -354,7 +354,7 @@ write-parts-refuses t sequence status group counter token rest out = go (sound t
   where
     go : (b : Bool) (d : Drawn) → (if b then draws d out else refuse_out out why.Unsound).answer
         ≡ (if not b then wrote.Refused why.Unsound else if outside d then wrote.Refused why.Body else if longer d out then wrote.Refused why.Short else wrote.Length (drawn_length d))
-    go true d = draws-answer d out
+    go true d = draws_answer d out
     go false d = refl
 
 parts-rises : (t : List ℕ) (d : Drawn) (out : List ℕ) → rising 0 (parts_causes t d out) ≡ true
@@ -383,7 +383,7 @@ write-record-by t a sequence value out E (unusable s u) = rw (s, u)
 write-record-by t a sequence value out E (lacks s u f) = rw (s, u, f)
 write-record-by t a sequence value out E (has {k} s u f) =
     let e : slot (decode_table t) k ≡ look (decode_table t) a = slot-look (decode_table t) a k f in
-    rw (s, u, f, ← e) (draws-answer (record_body (groups_of (decode_table t).header) (slot (decode_table t) k) sequence value) out)
+    rw (s, u, f, ← e) (draws_answer (record_body (groups_of (decode_table t).header) (slot (decode_table t) k) sequence value) out)
 
 pub write-record-refuses : (t a : List ℕ) (sequence : ℕ) (value out : List ℕ)
     → (writes_record t a sequence value out).answer ≡ first_cause wrote.Refused (record_causes t a (drawn_record t a sequence value) out) (wrote.Length (drawn_length (drawn_record t a sequence value)))

@@ -15,7 +15,7 @@ use Rattle.groups.specs.Groups.{listed, commit_length}
 use Rattle.groups.proofs.Laws.{commit-fits}
 use Rattle.frame.specs.Frame.{commit_body, token_request_body, group_refusal_body, confirm_body}
 use Rattle.frame.specs.Writing.{Drawn, Octets, draw_commit, draw_token_request, draw_group_refusal, draw_confirm, draw_commits, parts_body}
-use Rattle.frame.proofs.RoundTrip.{commit-reads, commit-token-back, commit-back, token-request-reads, token-request-back, group-refusal-reads, confirm-reads, confirm-back}
+use Rattle.frame.proofs.RoundTrip.{commit-reads, commit-token-back, commit_back, token-request-reads, token-request-back, group-refusal-reads, confirm-reads, confirm-back}
 use Rattle.record.specs.declared.Counts.{Counts}
 use Rattle.record.specs.declared.Header.{Header}
 use Rattle.record.specs.declared.Run.{Run}
@@ -32,7 +32,7 @@ use Rattle.rules.specs.declared.Frames.{Frames}
 use Rattle.rules.specs.Book.{Step}
 use Rattle.message.specs.View.{message}
 use Rattle.rule_laws.proofs.Keeps.{Kept, parts}
-use Rattle.rule_laws.proofs.Tells.{Told, a-commit, a-confirm, an-answer, a-request, a-refusal, Tells, tell_none, tell-one, tell-two, Truthful, States, frame-tells, start-tells, clock-tells}
+use Rattle.rule_laws.proofs.Tells.{Told, a_commit, a_confirm, an_answer, a_request, a_refusal, Tells, tell_none, tell_one, tell_two, Truthful, States, frame-tells, start-tells, clock-tells}
 use Rattle.answers.specs.declared.Refusal.{Refusal}
 use Rattle.answers.specs.declared.Turn.{Turn}
 use Rattle.answers.specs.declared.Turn.TheVariants.{Go}
@@ -41,9 +41,9 @@ use Rattle.answers.specs.Answers.{Left, ends, turned, refuse, refused, said, non
 use Rattle.answers.proofs.Ending.{Finished, Turned, denied, done, turn-ends}
 use Rattle.writer.specs.Writer.{draws, writes_parts, record_commit, record_confirm, record_body, writes_record_by, writes_record}
 use Rattle.calls.specs.Calls.{start_step, initiates, kill_turn, kill_step, kills, frame_step, receives, due_slot, clock_step, expires_by, expires}
-use Rattle.call_laws.specs.Writable.{CommitWritten, ConfirmWritten, RequestWritten, RefusalWritten, Writable, as-commit, as-confirm, as-request, as-refusal, Writables, write-none, write-one, write_two}
+use Rattle.call_laws.specs.Writable.{CommitWritten, ConfirmWritten, RequestWritten, RefusalWritten, Writable, as_commit, as_confirm, as_request, as_refusal, Writables, write_none, write_one, write_two}
 use Rattle.call_laws.proofs.Ends.{takes, clock-ends}
-use Rattle.call_laws.proofs.Good.{own_in, groups_in, high_in, slot_kept, entered-usable, entered-kept, start-entered, frame-entered, no-run, viewed, due-kept, due-place, initiate-good, kill-good, receive-good}
+use Rattle.call_laws.proofs.Good.{own_in, groups_in, high_in, slot_kept, entered-usable, entered-kept, start-entered, frame-entered, no-run, viewed, due-kept, due-place, initiate_good, kill_good, receive_good}
 
 -- ---- the record of an address
 
@@ -108,12 +108,12 @@ module _ (t a : List ℕ) (b : Bytes t) (s : sound t ≡ true) (q : usable (own_
       record {
         token = token;
         commit = commit;
-        token-is = refl;
-        commit-is = refl;
+        token_is = refl;
+        commit_is = refl;
         writes = λ value out. seen-writes t a b s q S 1 value out _ (record-commit (groups_in t) p value _ h drawn);
         reads = λ gs l. commit-reads gs g token commit l low small long;
         token_back = commit-token-back g token commit;
-        commit-back = commit-back g token commit long;
+        commit_back = commit_back g token commit long;
       }
     where
       p : Peer
@@ -160,7 +160,7 @@ unfolding record_body record_confirm
 confirm-of-link gs p value e d l = rw (e, ne_eqb p.link.finished 0 d) (draw-confirm 65535 value l)
 
 confirm-written : (t a : List ℕ) (n : ℕ) → n < 65536 → ((value out : List ℕ) → length value ≡ 32 → writes_record t a 2 value out ≡ draws (Octets (confirm_body n value)) out) → ConfirmWritten t a n
-confirm-written t a n h w = record { writes = w; reads = λ gs value l. confirm-reads gs n value h l; value-back = λ value l. confirm-back n value l }
+confirm-written t a n h w = record { writes = w; reads = λ gs value l. confirm-reads gs n value h l; value_back = λ value l. confirm-back n value l }
 
 -- ---- a 76 and a 77, from their parts
 
@@ -191,22 +191,22 @@ refusal-written t g s h = record { writes = λ out. parts-written t 77 g [] [] o
 
 module _ (t a : List ℕ) (b : Bytes t) (s : sound t ≡ true) (q : usable (own_in t) a ≡ true) where
   told-written : (x : Frame) → Told (look (decode_table t) a) x → Writable t a x
-  told-written x (a-commit {g} e h) = as-commit (commit-written t a b s q g e h)
-  told-written x (a-confirm {n} e h) =
+  told-written x (a_commit {g} e h) = as_commit (commit-written t a b s q g e h)
+  told-written x (a_confirm {n} e h) =
       let S = seen t a b s q (λ z. omega (arith, z.0)) in
-      as-confirm (confirm-written t a n (subst (λ (m : ℕ). m < 65536) e S.kept.fits.run.shape.sc)
+      as_confirm (confirm-written t a n (subst (λ (m : ℕ). m < 65536) e S.kept.fits.run.shape.sc)
       (λ value out l. subst (λ (m : ℕ). writes_record t a 2 value out ≡ draws (Octets (confirm_body m value)) out) e
       (seen-writes t a b s q S 2 value out _ (confirm-of-run (groups_in t) (look (decode_table t) a) value h l))))
-  told-written x (an-answer e h) =
+  told-written x (an_answer e h) =
       let S = seen t a b s q (λ z. h z.1) in
-      as-confirm (confirm-written t a 65535 (lit< tt) (λ value out l. seen-writes t a b s q S 2 value out _ (confirm-of-link (groups_in t) (look (decode_table t) a) value e h l)))
-  told-written x (a-request {g} h) = as-request (request-written t g s h)
-  told-written x (a-refusal {g} h) = as-refusal (refusal-written t g s h)
+      as_confirm (confirm-written t a 65535 (lit< tt) (λ value out l. seen-writes t a b s q S 2 value out _ (confirm-of-link (groups_in t) (look (decode_table t) a) value e h l)))
+  told-written x (a_request {g} h) = as_request (request-written t g s h)
+  told-written x (a_refusal {g} h) = as_refusal (refusal-written t g s h)
 
   tells-written : (fs : Frames) → Tells (look (decode_table t) a) fs → Writables t a fs
-  tells-written fs tell_none = write-none
-  tells-written fs (tell-one {x} h) = write-one (told-written x h)
-  tells-written fs (tell-two {x} {y} h k) = write_two (told-written x h) (told-written y k)
+  tells-written fs tell_none = write_none
+  tells-written fs (tell_one {x} h) = write_one (told-written x h)
+  tells-written fs (tell_two {x} {y} h k) = write_two (told-written x h) (told-written y k)
 
 -- ---- the end of a call
 
@@ -222,7 +222,7 @@ finish-writes t a s l q F T =
 
 refused-writes : (t a : List ℕ) (c : Refusal) (l : Left) → l ≡ refuse t c → Writables l.table a l.answer.frames
 unfolding refused
-refused-writes t a c l e = subst (λ (x : Left). Writables x.table a x.answer.frames) (sym e) write-none
+refused-writes t a c l e = subst (λ (x : Left). Writables x.table a x.answer.frames) (sym e) write_none
 
 turn-writes : (w : Turn) (g : Found → Step) (t a : List ℕ) → ((f : Found) → w ≡ Go f → (usable (own_in t) a ≡ true) × Truthful (g f)) → Turned w g t a
     → Writables (turned w g t a).table a (turned w g t a).answer.frames
@@ -241,7 +241,7 @@ unfolding initiates start_step
 initiate-writes t a time fresh b la ba ht bf =
     turn-writes _ _ t a
     (λ f e. let w = start-entered t a fresh (entry t a) f refl e in (entered-usable t a f w.0, start-tells _ _ _ (kept-states _ _ _ a _ (entered-kept t a b la ba f w.0)) (no-run _ w.2)))
-    (turn-ends _ _ t a b la ba (λ f e. initiate-good t a time fresh f b la ba ht bf e))
+    (turn-ends _ _ t a b la ba (λ f e. initiate_good t a time fresh f b la ba ht bf e))
 
 pub receive-writes : (t a : List ℕ) (time : ℕ) (frame fresh expected : List ℕ) (verdict : ℕ) → Bytes t → length a ≡ 6 → Bytes a → time < 2 ^ 32
     → Bytes frame → Bytes fresh → Bytes expected → verdict < 2 ^ 8
@@ -252,11 +252,11 @@ receive-writes t a time frame fresh expected verdict b la ba ht br bf be hv =
     (λ f e.
     let c = (frame-entered t a frame fresh expected verdict (entry t a) f refl e).0 in
     (entered-usable t a f c, frame-tells _ _ _ _ (viewed (groups_in t) frame br).group (kept-states _ _ _ a _ (entered-kept t a b la ba f c))))
-    (turn-ends _ _ t a b la ba (λ f e. receive-good t a time frame fresh expected verdict f b la ba ht br bf be hv e))
+    (turn-ends _ _ t a b la ba (λ f e. receive_good t a time frame fresh expected verdict f b la ba ht br bf be hv e))
 
 kill-none : (t a : List ℕ) (r : Answer) → r ≡ said kill_step a → Writables t a r.frames
 unfolding said kill_step
-kill-none t a r e = subst (λ (x : Answer). Writables t a x.frames) (sym e) write-none
+kill-none t a r e = subst (λ (x : Answer). Writables t a x.frames) (sym e) write_none
 
 said-address : (s : Step) (a : List ℕ) → (said s a).address ≡ a
 unfolding said
@@ -272,7 +272,7 @@ finish-writes-at t a s l q F T =
 -- set up and kill send nothing; the clock's answer has the address
 pub kill-writes : (t a : List ℕ) → Bytes t → length a ≡ 6 → Bytes a → Writables (kills t a).table a (kills t a).answer.frames
 unfolding kills
-kill-writes t a b la ba = go (turn-ends _ _ t a b la ba (λ f e. kill-good t a f b la ba e))
+kill-writes t a b la ba = go (turn-ends _ _ t a b la ba (λ f e. kill_good t a f b la ba e))
   where
     go : Turned (kill_turn (entry t a)) (λ f. kill_step) t a → Writables (turned (kill_turn (entry t a)) (λ f. kill_step) t a).table a (turned (kill_turn (entry t a)) (λ f. kill_step) t a).answer.frames
     go (denied c e) = refused-writes t a c _ e
@@ -291,5 +291,5 @@ module _ (t : List ℕ) (time : ℕ) (b : Bytes t) (ht : time < 2 ^ 32) where
       go true s (found.At k) e =
           subst AtItsAddress (sym (takes t time k s e))
           (finish-writes-at t _ _ _ (due-place t time k b s e).usable (clock-ends t time k s e b ht) (clock-step-tells k s e))
-      go true s found.Nothing e = rw (s, e) write-none
-      go false s f e = rw s write-none
+      go true s found.Nothing e = rw (s, e) write_none
+      go false s f e = rw s write_none

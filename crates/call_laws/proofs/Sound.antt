@@ -19,7 +19,7 @@ use Rattle.record.proofs.Laws.{shape-peer, record-below}
 use Rattle.table.specs.Table.{width_of, decode_table, slot, slots, in_use, belongs, look, placed, sound}
 use Rattle.table.proofs.Laws.{entry_at, found_below, sound-whole, free-below-law}
 use Rattle.table.proofs.Kept.{sound-form}
-use Rattle.table.proofs.Octets.{Elsewhere, before-counts, between-counts, before-record, past-record, after-header, placed-outside}
+use Rattle.table.proofs.Octets.{Elsewhere, before_counts, between_counts, before_record, past_record, after-header, placed-outside}
 use Rattle.initial.specs.Initial.{initial_ok}
 use Rattle.initial.proofs.Initial.{FitSettings, initial-served, initial-sound, initial-refused}
 use Rattle.good_links.specs.GoodLinks.{filled, fills}
@@ -36,7 +36,7 @@ use Rattle.answers.proofs.Ending.{Finished, finish-ends}
 use Rattle.calls.specs.Calls.{due_slot, initializes, initiates, kills, receives, expires_by, expires}
 use Rattle.call_laws.specs.Alike.{SoundTable}
 use Rattle.call_laws.proofs.Ends.{set-up-leaves, takes, clock-ends}
-use Rattle.call_laws.proofs.Good.{initiate-good, kill-good, receive-good, expire-good}
+use Rattle.call_laws.proofs.Good.{initiate_good, kill_good, receive_good, expire_good}
 
 -- a sound table's counts are true
 pub sound-table : (t : List ℕ) → sound t ≡ true → SoundTable t
@@ -98,18 +98,18 @@ module _ (t a : List ℕ) (b : Bytes t) (f : Found) (s : Step) (G : Good t a f s
     where
       apart : (k j : ℕ) → (j ≡ k → ⊥) → Elsewhere (record_at (width_of t) k) (record_size (width_of t)) (record_at (width_of t) j) (record_size (width_of t))
       apart k j d = elim (cases (ltb j k)) [
-        | inl h ↦ let w : j < k = ltb-true j k h in before-record (omega (arith, after-header (width_of t) j)) (record-below (width_of t) j k w)
-        | inr h ↦ let w : k ≤ j = ltb-false j k h in let v : k < j = omega (arith, w, d) in past-record (record-below (width_of t) k j v)
+        | inl h ↦ let w : j < k = ltb-true j k h in before_record (omega (arith, after-header (width_of t) j)) (record-below (width_of t) j k w)
+        | inr h ↦ let w : k ≤ j = ltb-false j k h in let v : k < j = omega (arith, w, d) in past_record (record-below (width_of t) k j v)
       ]
 
   finish-front : part (finishes t f s a).table 0 2 ≡ part t 0 2
-  finish-front = finish-outside 0 2 (λ k h i. before-counts (omega arith))
+  finish-front = finish-outside 0 2 (λ k h i. before_counts (omega arith))
 
   finish-middle : part (finishes t f s a).table 6 6 ≡ part t 6 6
-  finish-middle = finish-outside 6 6 (λ k h i. between-counts (omega arith) (omega arith))
+  finish-middle = finish-outside 6 6 (λ k h i. between_counts (omega arith) (omega arith))
 
   finish-back : part (finishes t f s a).table 14 18 ≡ part t 14 18
-  finish-back = finish-outside 14 18 (λ k h i. before-record (omega arith) (omega (arith, after-header (width_of t) k)))
+  finish-back = finish-outside 14 18 (λ k h i. before_record (omega arith) (omega (arith, after-header (width_of t) k)))
 
   finish-keeps : Finished t a s (finishes t f s a) → Keeping t a (finishes t f s a).table
   finish-keeps F = record {
@@ -139,23 +139,23 @@ turn-keeps (Go f) g t a b la ba s G = go (finish-ends t a b la ba f (g f) (G f r
 pub initiate-keeps : (t a : List ℕ) (time : ℕ) (fresh : List ℕ) → Bytes t → length a ≡ 6 → Bytes a → time < 2 ^ 32 → Bytes fresh → sound t ≡ true
     → Keeping t a (initiates t a time fresh).table
 unfolding initiates
-initiate-keeps t a time fresh b la ba ht bf s = turn-keeps _ _ t a b la ba s (λ f e. initiate-good t a time fresh f b la ba ht bf e)
+initiate-keeps t a time fresh b la ba ht bf s = turn-keeps _ _ t a b la ba s (λ f e. initiate_good t a time fresh f b la ba ht bf e)
 
 pub kill-keeps : (t a : List ℕ) → Bytes t → length a ≡ 6 → Bytes a → sound t ≡ true → Keeping t a (kills t a).table
 unfolding kills
-kill-keeps t a b la ba s = turn-keeps _ _ t a b la ba s (λ f e. kill-good t a f b la ba e)
+kill-keeps t a b la ba s = turn-keeps _ _ t a b la ba s (λ f e. kill_good t a f b la ba e)
 
 pub receive-keeps : (t a : List ℕ) (time : ℕ) (frame fresh expected : List ℕ) (verdict : ℕ) → Bytes t → length a ≡ 6 → Bytes a → time < 2 ^ 32 → Bytes frame → Bytes fresh → Bytes expected
     → verdict < 2 ^ 8 → sound t ≡ true → Keeping t a (receives t a time frame fresh expected verdict).table
 unfolding receives
 receive-keeps t a time frame fresh expected verdict b la ba ht br bf be hv s =
-    turn-keeps _ _ t a b la ba s (λ f e. receive-good t a time frame fresh expected verdict f b la ba ht br bf be hv e)
+    turn-keeps _ _ t a b la ba s (λ f e. receive_good t a time frame fresh expected verdict f b la ba ht br bf be hv e)
 
 -- the clock call, about the record that it takes; where none is due every octet stays
 pub expire-keeps-due : (t : List ℕ) (time k : ℕ) → Bytes t → time < 2 ^ 32 → sound t ≡ true → due_slot (decode_table t) time ≡ found.At k
     → Keeping t (slot (decode_table t) k).address (expires t time).table
 expire-keeps-due t time k b ht s e =
-    rw (takes t time k s e) (finish-keeps t (slot (decode_table t) k).address b (found.At k) _ (expire-good t time k b ht s e) (clock-ends t time k s e b ht))
+    rw (takes t time k s e) (finish-keeps t (slot (decode_table t) k).address b (found.At k) _ (expire_good t time k b ht s e) (clock-ends t time k s e b ht))
 
 pub expire-keeps-none : (t : List ℕ) (time : ℕ) → Bytes t → due_slot (decode_table t) time ≡ found.Nothing → (expires t time).table ≡ t
 unfolding expires expires_by

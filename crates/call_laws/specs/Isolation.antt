@@ -17,13 +17,13 @@ pub data PeerCall : Type 0 where
 
 -- what a caller can hand over at all: octets, six in an address, numbers in their types' ranges
 pub data Handed : PeerCall → Type 0 where
-  an-initiate : {address : List ℕ} {time : ℕ} {fresh : List ℕ} → length address ≡ 6 → Bytes address → time < 2 ^ 32 → Bytes fresh
+  an_initiate : {address : List ℕ} {time : ℕ} {fresh : List ℕ} → length address ≡ 6 → Bytes address → time < 2 ^ 32 → Bytes fresh
       → Handed (initiate address time fresh)
-  a-kill : {address : List ℕ} → length address ≡ 6 → Bytes address → Handed (kill address)
-  a-receive : {address : List ℕ} {time : ℕ} {frame fresh expected : List ℕ} {verdict : ℕ}
+  a_kill : {address : List ℕ} → length address ≡ 6 → Bytes address → Handed (kill address)
+  a_receive : {address : List ℕ} {time : ℕ} {frame fresh expected : List ℕ} {verdict : ℕ}
       → length address ≡ 6 → Bytes address → time < 2 ^ 32 → Bytes frame → Bytes fresh → Bytes expected → verdict < 2 ^ 8
       → Handed (receive address time frame fresh expected verdict)
-  an-expire : {time : ℕ} → time < 2 ^ 32 → Handed (expire time)
+  an_expire : {time : ℕ} → time < 2 ^ 32 → Handed (expire time)
 
 pub data AllHanded : List PeerCall → Type 0 where
   none : AllHanded []

@@ -21,7 +21,7 @@ pub data SameStock (W W' n : ℕ) (s z : List ℕ) : Type 0 where
   -- both have their own length and the same parts as values: what differs is the zeros that fill them up
   same_parts : length s ≡ W * n → length z ≡ W' * n → fresh_of W s ≡ fresh_of W' z → SameStock W W' n s z
   -- a wrong length on both sides, 4 at both
-  both-wrong : (length s ≡ W * n → ⊥) → (length z ≡ W' * n → ⊥) → SameStock W W' n s z
+  both_wrong : (length s ≡ W * n → ⊥) → (length z ≡ W' * n → ⊥) → SameStock W W' n s z
 
 -- the stock of the other length with the same parts: each cut or filled up with zeros
 unfoldable pub refilled : ℕ → ℕ → ℕ → List ℕ → List ℕ
@@ -44,14 +44,14 @@ pub data Further : Type 0 where
 -- sound, and all that it sees of the frame
 pub data Reply : Type 0 where
   answered : Answer → Reply
-  filled-so : Bool → Reply
+  filled_so : Bool → Reply
   wrote : LeftOut → Reply
   heard : Bool → View → Reply
   told : Asked → Reply
 
 abbrev pub reply : List ℕ → Further → Reply
 reply t (call c) = answered (left t c).answer
-reply t fill = filled-so (sound (filled t))
+reply t fill = filled_so (sound (filled t))
 reply t (write_parts sequence status group counter token rest out) = wrote (writes_parts t sequence status group counter token rest out)
 reply t (write_record address sequence value out) = wrote (writes_record t address sequence value out)
 reply t (read frame) = heard (sound t) (view (groups_of (decode_table t).header) frame)
@@ -83,12 +83,12 @@ replies t (c ∷ cs) = reply (after_all t cs) c ∷ replies t cs
 -- what a caller can hand over at all: `Handed` for the calls about peers; of the others nothing is asked
 pub data HandedOver : Further → Type 0 where
   a_call : {c : PeerCall} → Handed c → HandedOver (call c)
-  a-fill : HandedOver fill
-  a-parts : {sequence status group counter : ℕ} {token rest out : List ℕ} → HandedOver (write_parts sequence status group counter token rest out)
-  a-record : {address : List ℕ} {sequence : ℕ} {value out : List ℕ} → HandedOver (write_record address sequence value out)
-  a-frame : {frame : List ℕ} → HandedOver (read frame)
-  a-question : HandedOver good
-  a-time : {time : ℕ} → HandedOver (deadline time)
+  a_fill : HandedOver fill
+  a_parts : {sequence status group counter : ℕ} {token rest out : List ℕ} → HandedOver (write_parts sequence status group counter token rest out)
+  a_record : {address : List ℕ} {sequence : ℕ} {value out : List ℕ} → HandedOver (write_record address sequence value out)
+  a_frame : {frame : List ℕ} → HandedOver (read frame)
+  a_question : HandedOver good
+  a_time : {time : ℕ} → HandedOver (deadline time)
 
 pub data AllHandedOver : List Further → Type 0 where
   none : AllHandedOver []
@@ -98,21 +98,21 @@ pub data AllHandedOver : List Further → Type 0 where
 
 pub data Partner (W W' n : ℕ) : Further → Further → Type 0 where
   same_start : {address : List ℕ} {time : ℕ} {s z : List ℕ} → SameStock W W' n s z → Partner W W' n (call (initiate address time s)) (call (initiate address time z))
-  same-kill : {address : List ℕ} → Partner W W' n (call (kill address)) (call (kill address))
-  same-frame : {address : List ℕ} {time : ℕ} {frame s z expected : List ℕ} {verdict : ℕ} → SameStock W W' n s z
+  same_kill : {address : List ℕ} → Partner W W' n (call (kill address)) (call (kill address))
+  same_frame : {address : List ℕ} {time : ℕ} {frame s z expected : List ℕ} {verdict : ℕ} → SameStock W W' n s z
       → Partner W W' n (call (receive address time frame s expected verdict)) (call (receive address time frame z expected verdict))
-  same-clock : {time : ℕ} → Partner W W' n (call (expire time)) (call (expire time))
-  same-fill : Partner W W' n fill fill
-  same-parts-written : {sequence status group counter : ℕ} {token rest out : List ℕ}
+  same_clock : {time : ℕ} → Partner W W' n (call (expire time)) (call (expire time))
+  same_fill : Partner W W' n fill fill
+  same_parts_written : {sequence status group counter : ℕ} {token rest out : List ℕ}
       → Partner W W' n (write_parts sequence status group counter token rest out) (write_parts sequence status group counter token rest out)
-  same-record-written : {address : List ℕ} {sequence : ℕ} {value out : List ℕ} → Partner W W' n (write_record address sequence value out) (write_record address sequence value out)
+  same_record_written : {address : List ℕ} {sequence : ℕ} {value out : List ℕ} → Partner W W' n (write_record address sequence value out) (write_record address sequence value out)
   same_read : {frame : List ℕ} → Partner W W' n (read frame) (read frame)
   same_good : Partner W W' n good good
-  same-deadline : {time : ℕ} → Partner W W' n (deadline time) (deadline time)
+  same_deadline : {time : ℕ} → Partner W W' n (deadline time) (deadline time)
 
 pub data Partners (W W' n : ℕ) : List Further → List Further → Type 0 where
   both_end : Partners W W' n [] []
-  both-more : {c d : Further} {cs ds : List Further} → Partner W W' n c d → Partners W W' n cs ds → Partners W W' n (c ∷ cs) (d ∷ ds)
+  both_more : {c d : Further} {cs ds : List Further} → Partner W W' n c d → Partners W W' n cs ds → Partners W W' n (c ∷ cs) (d ∷ ds)
 
 -- what is said of two lists of further calls: "the answers that the unmoved table would have given", and tables that stay alike
 pub record AnsweredAlike (t u : List ℕ) (cs ds : List Further) : Type 0 where

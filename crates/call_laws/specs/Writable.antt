@@ -15,18 +15,18 @@ use Rattle.writer.specs.Writer.{draws, writes_parts, writes_record}
 pub record CommitWritten (t a : List ℕ) (g : ℕ) : Type 0 where
   pub token : List ℕ
   pub commit : List ℕ
-  pub token-is : token ≡ take (look (decode_table t) a).run.toklen (look (decode_table t) a).run.token
-  pub commit-is : commit ≡ take (commit_length g) (look (decode_table t) a).run.own
+  pub token_is : token ≡ take (look (decode_table t) a).run.toklen (look (decode_table t) a).run.token
+  pub commit_is : commit ≡ take (commit_length g) (look (decode_table t) a).run.own
   pub writes : (value out : List ℕ) → writes_record t a 1 value out ≡ draws (Octets (commit_body g token commit)) out
   pub reads : (gs : List ℕ) → listed gs g ≡ true → read_body gs (commit_body g token commit) ≡ body.Commit g (length token)
   pub token_back : token_of (commit_body g token commit) (length token) ≡ token
-  pub commit-back : commit_of (commit_body g token commit) g (length token) ≡ commit
+  pub commit_back : commit_of (commit_body g token commit) g (length token) ≡ commit
 
 -- the address's Confirm, with whatever value of 32 octets it is handed
 pub record ConfirmWritten (t a : List ℕ) (n : ℕ) : Type 0 where
   pub writes : (value out : List ℕ) → length value ≡ 32 → writes_record t a 2 value out ≡ draws (Octets (confirm_body n value)) out
   pub reads : (gs value : List ℕ) → length value ≡ 32 → read_body gs (confirm_body n value) ≡ body.Confirm n
-  pub value-back : (value : List ℕ) → length value ≡ 32 → value_of (confirm_body n value) ≡ value
+  pub value_back : (value : List ℕ) → length value ≡ 32 → value_of (confirm_body n value) ≡ value
 
 -- a 76 from its parts, with whatever token of 1 to 256 octets
 pub record RequestWritten (t : List ℕ) (g : ℕ) : Type 0 where
@@ -41,13 +41,13 @@ pub record RefusalWritten (t : List ℕ) (g : ℕ) : Type 0 where
 
 -- a frame of an answer about the address a that leaves the table t
 pub data Writable (t a : List ℕ) : Frame → Type 0 where
-  as-commit : {g : ℕ} → CommitWritten t a g → Writable t a (commit_frame g)
-  as-confirm : {n : ℕ} → ConfirmWritten t a n → Writable t a (confirm_frame n)
-  as-request : {g : ℕ} → RequestWritten t g → Writable t a (token_request_frame g)
-  as-refusal : {g : ℕ} → RefusalWritten t g → Writable t a (group_refusal_frame g)
+  as_commit : {g : ℕ} → CommitWritten t a g → Writable t a (commit_frame g)
+  as_confirm : {n : ℕ} → ConfirmWritten t a n → Writable t a (confirm_frame n)
+  as_request : {g : ℕ} → RequestWritten t g → Writable t a (token_request_frame g)
+  as_refusal : {g : ℕ} → RefusalWritten t g → Writable t a (group_refusal_frame g)
 
 -- every frame of an answer
 pub data Writables (t a : List ℕ) : Frames → Type 0 where
-  write-none : Writables t a None
-  write-one : {x : Frame} → Writable t a x → Writables t a (One x)
+  write_none : Writables t a None
+  write_one : {x : Frame} → Writable t a x → Writables t a (One x)
   write_two : {x y : Frame} → Writable t a x → Writable t a y → Writables t a (Two x y)

@@ -63,25 +63,25 @@ module _ (s : List ℕ) where
   elements-rest r h e = e ∙ take_all (length s - 40) (drop 40 s) (omega (arith, length-drop 40 s))
 
 -- scalar and element are one part
-pub commit-is : (s : List ℕ) (g t : ℕ) → commit_of s g t ≡ part s (8 + t) (commit_length g)
+pub commit_is : (s : List ℕ) (g t : ℕ) → commit_of s g t ≡ part s (8 + t) (commit_length g)
 unfolding commit_of scalar_of element_of commit_length
-commit-is s g t = sym (part-add s (8 + t) (scalar_length g) (element_length g))
+commit_is s g t = sym (part-add s (8 + t) (scalar_length g) (element_length g))
 
 pub commit-short : (s : List ℕ) (g t : ℕ) → length (commit_of s g t) ≤ width
 unfolding part
-commit-short s g t = rw (commit-is s g t, length-take) (omega (arith, commit-fits g))
+commit-short s g t = rw (commit_is s g t, length-take) (omega (arith, commit-fits g))
 
 module _ (s : List ℕ) (g t : ℕ) where
   pub commit-past : length s < 8 + t → take (length s - length s) (drop (length s) s) ≡ commit_of s g t
   unfolding part
-  commit-past h = part-past s (length s) (length s - length s) (omega arith) ∙ sym (part-past s (8 + t) (commit_length g) (omega arith)) ∙ sym (commit-is s g t)
+  commit-past h = part-past s (length s) (length s - length s) (omega arith) ∙ sym (part-past s (8 + t) (commit_length g) (omega arith)) ∙ sym (commit_is s g t)
 
   pub commit-rest : (m : ℕ) → m ≡ commit_length g → 8 + t ≤ length s → length s - (8 + t) < m → take (length s - (8 + t)) (drop (8 + t) s) ≡ commit_of s g t
   unfolding part
-  commit-rest m e h k = sym (part-rest s (8 + t) (commit_length g) h (omega arith)) ∙ sym (commit-is s g t)
+  commit-rest m e h k = sym (part-rest s (8 + t) (commit_length g) h (omega arith)) ∙ sym (commit_is s g t)
 
   pub commit-whole : (m : ℕ) (r : List ℕ) → m ≡ commit_length g → r ≡ part s (8 + t) m → r ≡ commit_of s g t
-  commit-whole m r e p = p ∙ ap (part s (8 + t)) e ∙ sym (commit-is s g t)
+  commit-whole m r e p = p ∙ ap (part s (8 + t)) e ∙ sym (commit_is s g t)
 
 -- ---- where each part of a body stands
 

@@ -16,7 +16,7 @@ use Rattle.groups.proofs.Laws.{commit-fits, stored-tail}
 use Rattle.frame.specs.declared.Body.TheVariants.{Commit, TokenRequest, GroupRefusal, OtherCommit, Confirm, OtherConfirm, Malformed}
 use Rattle.frame.specs.Frame.{algorithm_of, sequence_of, status_of, group_of, counter_of, read_listed, read_token_request, read_group_refusal, read_commit, whole_elements, elements_of, read_confirm, read_body, token_of, commit_of, value_of, is_offer, head, body, commit_body, token_request_body, group_refusal_body, confirm_body}
 use Rattle.frame.specs.Writing.{Octets, draw_commit, draw_token_request, draw_group_refusal, draw_confirm}
-use Rattle.frame.proofs.Laws.{part-mid, length-head, length-body, commit-is}
+use Rattle.frame.proofs.Laws.{part-mid, length-head, length-body, commit_is}
 use Rattle.frame.proofs.Reading.{listed-read, offer-listed, request-read, refusal-read, commit-offer, commit-request, commit-refusal, confirm-read, body-commit, body-confirm}
 use Rattle.frame.proofs.Elements.{whole-end}
 use Rattle.frame.proofs.Shapes.{CommitShape, commit-shape, TokenRequestShape, token-request-shape, GroupRefusalShape, group-refusal-shape, ConfirmShape, confirm-shape}
@@ -71,9 +71,9 @@ pub commit-token-back : (g : ℕ) (t c : List ℕ) → token_of (commit_body g t
 unfolding commit_body token_of
 commit-token-back g t c = body-token 1 0 g t c
 
-pub commit-back : (g : ℕ) (t c : List ℕ) → length c ≡ commit_length g → commit_of (commit_body g t c) g (length t) ≡ c
+pub commit_back : (g : ℕ) (t c : List ℕ) → length c ≡ commit_length g → commit_of (commit_body g t c) g (length t) ≡ c
 unfolding commit_body
-commit-back g t c e = commit-is (body 1 0 g t c) g (length t) ∙ ap (part (body 1 0 g t c) (8 + length t)) (sym e) ∙ body-rest 1 0 g t c
+commit_back g t c e = commit_is (body 1 0 g t c) g (length t) ∙ ap (part (body 1 0 g t c) (8 + length t)) (sym e) ∙ body-rest 1 0 g t c
 
 -- a 76, for every list
 pub token-request-reads : (gs : List ℕ) (g : ℕ) (t : List ℕ) → g < 65536 → 1 ≤ length t → length t ≤ 256 → read_body gs (token_request_body g t) ≡ TokenRequest g (length t)
@@ -195,7 +195,7 @@ commit-again gs s g n b e =
     let j : length (part s (8 + n) (commit_length g)) ≡ commit_length g = length_part s (8 + n) (commit_length g) (omega arith) in
     let o : body 1 0 g (part s 8 n) (part s (8 + n) (commit_length g)) ≡ s =
     let z = body-whole s n (commit_length g) b w.head.algorithm l in (rw (w.sequence, w.status, w.group) at z) in
-    rw (commit-is s g n, w.supported, le-ltb 256 (length (part s 8 n)) (within (length (part s 8 n)) n i w.token), eq-eqb (length (part s (8 + n) (commit_length g))) (commit_length g) j) (ap Octets o)
+    rw (commit_is s g n, w.supported, le-ltb 256 (length (part s 8 n)) (within (length (part s 8 n)) n i w.token), eq-eqb (length (part s (8 + n) (commit_length g))) (commit_length g) j) (ap Octets o)
   where
     within : (k n : ℕ) → k ≡ n → n ≤ 256 → k ≤ 256
     within k n e h = omega arith
@@ -209,7 +209,7 @@ pub commit-length-read : (gs s : List ℕ) (g n : ℕ) → read_body gs s ≡ Co
 commit-length-read gs s g n e =
     let w : CommitShape gs s g n = commit-shape gs s g n e in
     let l : length s ≡ 8 + n + commit_length g = w.total in
-    ap length (commit-is s g n) ∙ length_part s (8 + n) (commit_length g) (omega arith)
+    ap length (commit_is s g n) ∙ length_part s (8 + n) (commit_length g) (omega arith)
 
 pub commit-tail : (gs s : List ℕ) (g n : ℕ) → read_body gs s ≡ Commit g n → all_zero (drop (commit_length g) (stored (commit_of s g n))) ≡ true
 commit-tail gs s g n e = stored-tail (commit_of s g n) (commit_length g) (commit-length-read gs s g n e)
@@ -241,9 +241,9 @@ group-refusal-again gs s g b e =
     ap Octets (rw (w.sequence, w.status, w.group) at z)
 
 -- a status 0 Confirm of 40 octets
-confirm-again : (gs s : List ℕ) (n : ℕ) → Bytes s → read_body gs s ≡ Confirm n → length s ≡ 40 → draw_confirm n (value_of s) ≡ Octets s
+confirm_again : (gs s : List ℕ) (n : ℕ) → Bytes s → read_body gs s ≡ Confirm n → length s ≡ 40 → draw_confirm n (value_of s) ≡ Octets s
 unfolding draw_confirm confirm_body value_of part
-confirm-again gs s n b e l =
+confirm_again gs s n b e l =
     let w : ConfirmShape s n = confirm-shape gs s n e in
     let i : length (take 32 (drop 8 s)) ≡ 32 = length_part s 8 32 (omega arith) in
     let z = body-whole s 0 32 b w.head.algorithm l in
@@ -253,4 +253,4 @@ confirm-again gs s n b e l =
 pub confirm-first : (gs s : List ℕ) (n : ℕ) → Bytes s → read_body gs s ≡ Confirm n → draw_confirm n (value_of s) ≡ Octets (take 40 s)
 confirm-first gs s n b e =
     let w = trailing gs s n e in
-    ap (draw_confirm n) (sym w.value) ∙ confirm-again gs (take 40 s) n (bytes_take 40 s b) (w.first gs) (length-take-le 40 s (confirm-shape gs s n e).total)
+    ap (draw_confirm n) (sym w.value) ∙ confirm_again gs (take 40 s) n (bytes_take 40 s b) (w.first gs) (length-take-le 40 s (confirm-shape gs s n e).total)

@@ -159,13 +159,13 @@ headed gs s z e n =
     go false p k = let d = if-then (eqb (sequence_of s) 2) (read_confirm s) Malformed z k n in inr (eqb-true _ _ d.0, d.1)
 
 -- a Commit of any status, and a Confirm of any status
-as-commit : (gs s : List ℕ) (z : Body) → read_body gs s ≡ z → code z ≤ 4 → Headed s × (sequence_of s ≡ 1) × (read_commit gs s ≡ z)
-as-commit gs s z e h =
+as_commit : (gs s : List ℕ) (z : Body) → read_body gs s ≡ z → code z ≤ 4 → Headed s × (sequence_of s ≡ 1) × (read_commit gs s ≡ z)
+as_commit gs s z e h =
     let w = headed gs s z e (λ q. omega (arith, ap code q)) in
     ⊎_elim (λ k. (w.0, k.0, k.1)) (λ k. absurd (omega (arith, ap code k.1, confirm-code s))) w.1
 
-as-confirm : (gs s : List ℕ) (z : Body) → read_body gs s ≡ z → 5 ≤ code z → code z < 7 → Headed s × (sequence_of s ≡ 2) × (read_confirm s ≡ z)
-as-confirm gs s z e h l =
+as_confirm : (gs s : List ℕ) (z : Body) → read_body gs s ≡ z → 5 ≤ code z → code z < 7 → Headed s × (sequence_of s ≡ 2) × (read_confirm s ≡ z)
+as_confirm gs s z e h l =
     let w = headed gs s z e (λ q. omega (arith, ap code q)) in
     ⊎_elim
     (λ k. absurd (⊎_elim (λ c. omega (arith, ap code k.1)) (λ c. omega (arith, ap code k.1)) (commit-code gs s)))
@@ -175,7 +175,7 @@ as-confirm gs s z e h l =
 as-offer : (gs s : List ℕ) (z : Body) → read_body gs s ≡ z → code z ≤ 1 → Headed s × (sequence_of s ≡ 1) × (status_of s ≡ 0) × (read_offer gs s ≡ z)
 unfolding read_commit
 as-offer gs s z e h =
-    let w = as-commit gs s z e (omega arith) in
+    let w = as_commit gs s z e (omega arith) in
     let k = if-then (eqb (status_of s) 0) (read_offer gs s) _ z w.2 (λ q. no q) in
     (w.0, w.1, eqb-true _ _ k.0, k.1)
   where
@@ -248,7 +248,7 @@ pub record TokenRequestShape (s : List ℕ) (g n : ℕ) : Type 0 where
 pub token-request-shape : (gs s : List ℕ) (g n : ℕ) → read_body gs s ≡ TokenRequest g n → TokenRequestShape s g n
 unfolding read_commit read_token_request
 token-request-shape gs s g n e =
-    let w = as-commit gs s (TokenRequest g n) e (omega arith) in
+    let w = as_commit gs s (TokenRequest g n) e (omega arith) in
     let a = if-else (eqb (status_of s) 0) (read_offer gs s) _ (TokenRequest g n) w.2 (λ q. ⊎_elim (λ k. omega (arith, ap code q)) (λ k. omega (arith, ap code q)) (offer-code gs s)) in
     let b = if-then (eqb (status_of s) 76) (read_token_request s) _ (TokenRequest g n) a.1 (λ q. no q) in
     let c = if-else (ltb (length s) 9) Malformed _ (TokenRequest g n) b.1 (λ q. omega (arith, ap code q)) in
@@ -275,7 +275,7 @@ pub record GroupRefusalShape (s : List ℕ) (g : ℕ) : Type 0 where
 pub group-refusal-shape : (gs s : List ℕ) (g : ℕ) → read_body gs s ≡ GroupRefusal g → GroupRefusalShape s g
 unfolding read_commit read_group_refusal
 group-refusal-shape gs s g e =
-    let w = as-commit gs s (GroupRefusal g) e (omega arith) in
+    let w = as_commit gs s (GroupRefusal g) e (omega arith) in
     let a = if-else (eqb (status_of s) 0) (read_offer gs s) _ (GroupRefusal g) w.2 (λ q. ⊎_elim (λ k. omega (arith, ap code q)) (λ k. omega (arith, ap code q)) (offer-code gs s)) in
     let b = if-else (eqb (status_of s) 76) (read_token_request s) _ (GroupRefusal g) a.1 (λ q. ⊎_elim (λ k. omega (arith, ap code q)) (λ k. omega (arith, ap code q)) (request-code s)) in
     let c = if-then (eqb (status_of s) 77) (read_group_refusal s) (OtherCommit (status_of s)) (GroupRefusal g) b.1 (λ q. omega (arith, ap code q)) in
@@ -290,19 +290,19 @@ pub record OtherCommitShape (s : List ℕ) (x : ℕ) : Type 0 where
   pub head : Headed s
   pub sequence : sequence_of s ≡ 1
   pub status : status_of s ≡ x
-  pub not-zero : x ≡ 0 → ⊥
-  pub no-request : x ≡ 76 → ⊥
-  pub no-refusal : x ≡ 77 → ⊥
+  pub not_zero : x ≡ 0 → ⊥
+  pub no_request : x ≡ 76 → ⊥
+  pub no_refusal : x ≡ 77 → ⊥
 
 pub other-commit-shape : (gs s : List ℕ) (x : ℕ) → read_body gs s ≡ OtherCommit x → OtherCommitShape s x
 unfolding read_commit
 other-commit-shape gs s x e =
-    let w = as-commit gs s (OtherCommit x) e (omega arith) in
+    let w = as_commit gs s (OtherCommit x) e (omega arith) in
     let a = if-else (eqb (status_of s) 0) (read_offer gs s) _ (OtherCommit x) w.2 (λ q. ⊎_elim (λ k. omega (arith, ap code q)) (λ k. omega (arith, ap code q)) (offer-code gs s)) in
     let b = if-else (eqb (status_of s) 76) (read_token_request s) _ (OtherCommit x) a.1 (λ q. ⊎_elim (λ k. omega (arith, ap code q)) (λ k. omega (arith, ap code q)) (request-code s)) in
     let c = if-else (eqb (status_of s) 77) (read_group_refusal s) (OtherCommit (status_of s)) (OtherCommit x) b.1 (λ q. ⊎_elim (λ k. omega (arith, ap code q)) (λ k. omega (arith, ap code q)) (refusal-code s)) in
     let i : status_of s ≡ x = same c.1 in
-    record { head = w.0; sequence = w.1; status = i; not-zero = λ z. eqb-false _ _ a.0 (i ∙ z); no-request = λ z. eqb-false _ _ b.0 (i ∙ z); no-refusal = λ z. eqb-false _ _ c.0 (i ∙ z) }
+    record { head = w.0; sequence = w.1; status = i; not_zero = λ z. eqb-false _ _ a.0 (i ∙ z); no_request = λ z. eqb-false _ _ b.0 (i ∙ z); no_refusal = λ z. eqb-false _ _ c.0 (i ∙ z) }
   where
     same : OtherCommit (status_of s) ≡ OtherCommit x → status_of s ≡ x
     same q = cc
@@ -319,7 +319,7 @@ pub record ConfirmShape (s : List ℕ) (n : ℕ) : Type 0 where
 pub confirm-shape : (gs s : List ℕ) (n : ℕ) → read_body gs s ≡ Confirm n → ConfirmShape s n
 unfolding read_confirm
 confirm-shape gs s n e =
-    let w = as-confirm gs s (Confirm n) e (omega arith) (omega arith) in
+    let w = as_confirm gs s (Confirm n) e (omega arith) (omega arith) in
     let a = if-then (eqb (status_of s) 0) _ (OtherConfirm (status_of s)) (Confirm n) w.2 (λ q. omega (arith, ap code q)) in
     let b = if-else (ltb (length s) 40) Malformed _ (Confirm n) a.1 (λ q. omega (arith, ap code q)) in
     let c = if-then (whole_elements (elements_of s)) (Confirm (counter_of s)) Malformed (Confirm n) b.1 (λ q. omega (arith, ap code q)) in
@@ -333,15 +333,15 @@ pub record OtherConfirmShape (s : List ℕ) (x : ℕ) : Type 0 where
   pub head : Headed s
   pub sequence : sequence_of s ≡ 2
   pub status : status_of s ≡ x
-  pub not-zero : x ≡ 0 → ⊥
+  pub not_zero : x ≡ 0 → ⊥
 
 pub other-confirm-shape : (gs s : List ℕ) (x : ℕ) → read_body gs s ≡ OtherConfirm x → OtherConfirmShape s x
 unfolding read_confirm
 other-confirm-shape gs s x e =
-    let w = as-confirm gs s (OtherConfirm x) e (omega arith) (omega arith) in
+    let w = as_confirm gs s (OtherConfirm x) e (omega arith) (omega arith) in
     let a = if-else (eqb (status_of s) 0) _ (OtherConfirm (status_of s)) (OtherConfirm x) w.2 (λ q. no q) in
     let i : status_of s ≡ x = same a.1 in
-    record { head = w.0; sequence = w.1; status = i; not-zero = λ z. eqb-false _ _ a.0 (i ∙ z) }
+    record { head = w.0; sequence = w.1; status = i; not_zero = λ z. eqb-false _ _ a.0 (i ∙ z) }
   where
     same : OtherConfirm (status_of s) ≡ OtherConfirm x → status_of s ≡ x
     same q = cc

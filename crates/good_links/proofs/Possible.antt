@@ -232,12 +232,12 @@ bytes-address own i h (suc (suc (suc (suc (suc (suc k)))))) = lit< tt
 address-usable : (own : List ℕ) (i : ℕ) → length own ≡ 6 → Bytes own → i < 256 → usable own (address_of own i) ≡ true
 unfolding usable individual zero_address same_address num
 address-usable own i lo bo h =
-    let z : eqb (num (address_of own i)) 0 ≡ false = ne_eqb _ _ not-zero in
+    let z : eqb (num (address_of own i)) 0 ≡ false = ne_eqb _ _ not_zero in
     let d : eqb (num (address_of own i)) (num own) ≡ false = ne_eqb _ _ (λ e. unlike-not (get_or own 4 0) (ap (λ (a : List ℕ). get_or a 4 0) (num-inj (address_of own i) own (sym lo) (bytes-address own i h) bo e))) in
     and_both _ _ refl (and_both _ _ (ap not z) (ap not d))
   where
-    not-zero : num (address_of own i) ≡ 0 → ⊥
-    not-zero e = omega (arith, e)
+    not_zero : num (address_of own i) ≡ 0 → ⊥
+    not_zero e = omega (arith, e)
 
 addresses-differ : (own : List ℕ) (i j : ℕ) → i < 256 → j < 256 → (i ≡ j → ⊥) → same_address (address_of own i) (address_of own j) ≡ false
 unfolding same_address

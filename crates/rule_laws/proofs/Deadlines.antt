@@ -22,8 +22,8 @@ use Rattle.rules.specs.declared.Frames.TheVariants.{None, One, Two}
 use Rattle.rules.specs.Parts.{heard_again, with_run, with_link}
 use Rattle.rules.specs.declared.Clock.{Clock}
 use Rattle.rules.specs.Book.{has_run, has_link, Terms, Call, Step, sending, answering, dropping, refusing, abandoning, ending_link, retransmitting, forming, starting, accepting, answering_commit, confirming_commit, replying_token, repeating_commit, repeating_refusal, resending_both, confirming_again, hearing_again, hearing_last, perform}
-use Rattle.rules.specs.Asked.{Asked, refuse-group, ask-token, no-slot, begin, answer-commit, confirm-commit, reply-token, switch-group, repeat-commit, repeat-refusal, resend-both, confirm-again, give-up, accept, hear-again, hear-last, end-link, drop}
-use Rattle.rule_laws.specs.Deadlines.{Still, Ends, run_ends, link-ends}
+use Rattle.rules.specs.Asked.{Asked, refuse_group, ask_token, no-slot, begin, answer_commit, confirm_commit, reply_token, switch_group, repeat_commit, repeat_refusal, resend_both, confirm_again, give_up, accept, hear_again, hear_last, end_link, drop}
+use Rattle.rule_laws.specs.Deadlines.{Still, Ends, run_ends, link_ends}
 use Rattle.rule_laws.proofs.Outcomes.{switch-outcomes, repeat-outcomes, settle-outcomes}
 use Rattle.rule_laws.proofs.Keeps.{Kept, parts}
 
@@ -88,7 +88,7 @@ module _ (t : Terms) (c : Call) (p : Peer) (m : Message) where
 -- both deadlines stay, or a frame is sent, or the record's run or link ends; an event tells the end, unless it may go untold
 pub data StepMoves (untold : Bool) (p : Peer) (s : Step) : Type 0 where
   still : Still p s.peer → StepMoves untold p s
-  has-sent : (s.frames ≡ None → ⊥) → StepMoves untold p s
+  has_sent : (s.frames ≡ None → ⊥) → StepMoves untold p s
   has_ended : Ends p s.peer → (s.event ≡ event.None → untold ≡ true) → StepMoves untold p s
 
 -- no act's end goes untold
@@ -108,7 +108,7 @@ accept-moves p counter time d = has_ended (run_ends (rw (ne_eqb _ _ d) refl) ref
 
 repeat-moves : (κ : Clock) (p : Peer) (r : Run) (fs : Frames) → (p.run.state ≡ 0 → ⊥) → (fs ≡ None → ⊥) → ActMoves p (retransmitting κ p r fs)
 unfolding sending
-repeat-moves κ p r fs d f = repeat-outcomes (StepMoves false p) κ p r fs (λ h. abandon-moves p d) (λ h. has-sent f)
+repeat-moves κ p r fs d f = repeat-outcomes (StepMoves false p) κ p r fs (λ h. abandon-moves p d) (λ h. has_sent f)
 
 -- a link that ends was in being; where none was, a sound record stays as it is
 module _ (own gs : List ℕ) (high : ℕ) (a : List ℕ) (p : Peer) (k : Kept own gs high a p) where
@@ -128,7 +128,7 @@ module _ (own gs : List ℕ) (high : ℕ) (a : List ℕ) (p : Peer) (k : Kept ow
       t1 = settle-outcomes (λ (q : Peer). q.link.t1 ≡ p.link.t1) (with_link p no_link) (λ x y. sym (no-link-t1 e)) (λ d. sym (no-link-t1 e));
     })
     | no d ↦
-        has_ended (link-ends (rw (ne_eqb _ _ d) refl) (settle-outcomes (λ (q : Peer). has_link q ≡ false) (with_link p no_link) (λ x y. refl) (λ z. refl)))
+        has_ended (link_ends (rw (ne_eqb _ _ d) refl) (settle-outcomes (λ (q : Peer). has_link q ≡ false) (with_link p no_link) (λ x y. refl) (λ z. refl)))
         (λ e. absurd (told _ refl e))
   ]
 
@@ -137,21 +137,21 @@ module _ (t : Terms) (c : Call) (p : Peer) (m : Message) (high : ℕ) (k : Kept 
   pub act-moves : {a : Act} → Asked t c p m a → ActMoves p (perform t c p m a)
   unfolding perform dropping answering refusing sending forming starting with_link heard_again answering_commit confirming_commit replying_token repeating_commit repeating_refusal resending_both confirming_again hearing_again hearing_last
   act-moves (drop d) = still (record { t0 = refl; t1 = refl })
-  act-moves (refuse-group r z l) = still (record { t0 = refl; t1 = refl })
-  act-moves (ask-token r z l) = still (record { t0 = refl; t1 = refl })
+  act-moves (refuse_group r z l) = still (record { t0 = refl; t1 = refl })
+  act-moves (ask_token r z l) = still (record { t0 = refl; t1 = refl })
   act-moves (no-slot r e) = still (record { t0 = refl; t1 = refl })
-  act-moves (begin r e) = has-sent (sent _ refl)
-  act-moves (answer-commit d r o e) = has-sent (sent _ refl)
-  act-moves (confirm-commit s o g e) = has-sent (sent _ refl)
-  act-moves (reply-token s z g) = repeat-moves c.clock p _ _ (λ q. omega arith) (sent _ refl)
-  act-moves (switch-group s z g) =
-      switch-outcomes (StepMoves false p) c.clock p t.groups c.fresh (λ i g h. has-sent (sent _ refl)) (λ h. abandon-moves p (λ q. omega arith))
-  act-moves (repeat-commit s z) = repeat-moves c.clock p _ _ (λ q. omega arith) (sent _ refl)
-  act-moves (repeat-refusal s z l) = repeat-moves c.clock p _ _ (λ q. omega arith) (sent _ refl)
-  act-moves (resend-both s z l g) = has-sent (sent _ refl)
-  act-moves (confirm-again s z) = repeat-moves c.clock p _ _ (λ q. omega arith) (sent _ refl)
-  act-moves (give-up s z e) = abandon-moves p (λ q. omega arith)
+  act-moves (begin r e) = has_sent (sent _ refl)
+  act-moves (answer_commit d r o e) = has_sent (sent _ refl)
+  act-moves (confirm_commit s o g e) = has_sent (sent _ refl)
+  act-moves (reply_token s z g) = repeat-moves c.clock p _ _ (λ q. omega arith) (sent _ refl)
+  act-moves (switch_group s z g) =
+      switch-outcomes (StepMoves false p) c.clock p t.groups c.fresh (λ i g h. has_sent (sent _ refl)) (λ h. abandon-moves p (λ q. omega arith))
+  act-moves (repeat_commit s z) = repeat-moves c.clock p _ _ (λ q. omega arith) (sent _ refl)
+  act-moves (repeat_refusal s z l) = repeat-moves c.clock p _ _ (λ q. omega arith) (sent _ refl)
+  act-moves (resend_both s z l g) = has_sent (sent _ refl)
+  act-moves (confirm_again s z) = repeat-moves c.clock p _ _ (λ q. omega arith) (sent _ refl)
+  act-moves (give_up s z e) = abandon-moves p (λ q. omega arith)
   act-moves (accept s d z v) = accept-moves p _ c.clock.time (λ q. omega arith)
-  act-moves (hear-again r n l i v) = still (record { t0 = refl; t1 = refl })
-  act-moves (hear-last r n l i v) = still (record { t0 = refl; t1 = refl })
-  act-moves end-link = end-moves t.own t.groups high c.address p k
+  act-moves (hear_again r n l i v) = still (record { t0 = refl; t1 = refl })
+  act-moves (hear_last r n l i v) = still (record { t0 = refl; t1 = refl })
+  act-moves end_link = end-moves t.own t.groups high c.address p k

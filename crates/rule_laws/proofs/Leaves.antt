@@ -24,7 +24,7 @@ use Rattle.rules.specs.Parts.{with_mark, with_sync, with_sc, heard_again, with_t
 use Rattle.rules.specs.Parts as changed
 use Rattle.rules.specs.declared.Clock.{Clock}
 use Rattle.rules.specs.Book.{◌is◌, holds, Terms, Call, Step, silence, commit_frame, deadline, delay, t0_due, set_t0, sending, answering, refusing, settled, abandoning, ending_link, retransmitting, dropping, supersede, formed_run, forming, started_run, starting, link_of_run, accepting, answering_commit, confirming_commit, replying_token, repeating_commit, repeating_refusal, resending_both, confirming_again, hearing_again, hearing_last, perform, start_act, clock_act, commit_act, confirm_act, on_frame, on_clock, on_start}
-use Rattle.rules.specs.Asked.{Asked, refuse-group, ask-token, no-slot, begin, answer-commit, confirm-commit, reply-token, switch-group, repeat-commit, repeat-refusal, resend-both, confirm-again, give-up, accept, hear-again, hear-last, end-link, drop}
+use Rattle.rules.specs.Asked.{Asked, refuse_group, ask_token, no-slot, begin, answer_commit, confirm_commit, reply_token, switch_group, repeat_commit, repeat_refusal, resend_both, confirm_again, give_up, accept, hear_again, hear_last, end_link, drop}
 use Rattle.rules.proofs.Ladders.{commit-asked, confirm-asked, frame-asked, clock-asked}
 use Rattle.rule_laws.proofs.Outcomes.{whether, switch-outcomes, repeat-outcomes, settle-outcomes}
 use Rattle.rule_laws.proofs.Keeps.{Kept, parts}
@@ -386,25 +386,25 @@ module _ (t : Terms) (c : Call) (p : Peer) (m : Message) where
   pub act-did : {a : Act} → Asked t c p m a → Did c.clock p (perform t c p m a)
   unfolding perform answering_commit confirming_commit repeating_commit repeating_refusal resending_both confirming_again hearing_again hearing_last
   act-did (drop d) = drop-row c.clock p
-  act-did (refuse-group r z l) = answer-row c.clock p _
-  act-did (ask-token r z l) = answer-row c.clock p _
+  act-did (refuse_group r z l) = answer-row c.clock p _
+  act-did (ask_token r z l) = answer-row c.clock p _
   act-did (no-slot r e) = refuse-row c.clock p
   act-did (begin r e) = started _ _ _ (start-row c.clock p _ _ _)
-  act-did (answer-commit d r o e) = form-row c.clock p _ _ _ _ _ _
-  act-did (confirm-commit s o g e) = form-row c.clock p _ _ _ _ _ _
-  act-did (reply-token s z g) = reply-row c.clock p m
-  act-did (switch-group s z g) =
+  act-did (answer_commit d r o e) = form-row c.clock p _ _ _ _ _ _
+  act-did (confirm_commit s o g e) = form-row c.clock p _ _ _ _ _ _
+  act-did (reply_token s z g) = reply-row c.clock p m
+  act-did (switch_group s z g) =
       switch-outcomes (Did c.clock p) c.clock p t.groups c.fresh (λ i g h. switch-row c.clock p _ g _ _)
       (λ h. abandon-row c.clock p)
-  act-did (repeat-commit s z) = same_row c.clock p _
-  act-did (repeat-refusal s z l) = same_row c.clock p _
-  act-did (resend-both s z l g) = count-row c.clock p _ _ l
-  act-did (confirm-again s z) = repeat-row c.clock p _ _
-  act-did (give-up s z e) = abandon-row c.clock p
+  act-did (repeat_commit s z) = same_row c.clock p _
+  act-did (repeat_refusal s z l) = same_row c.clock p _
+  act-did (resend_both s z l g) = count-row c.clock p _ _ l
+  act-did (confirm_again s z) = repeat-row c.clock p _ _
+  act-did (give_up s z e) = abandon-row c.clock p
   act-did (accept s d z v) = accept-row c.clock p _
-  act-did (hear-again r n l i v) = hear-row c.clock p m.counter (p.link.sync + 1) _ l (omega arith)
-  act-did (hear-last r n l i v) = hear-row c.clock p m.counter p.link.sync None l (omega arith)
-  act-did end-link = end_row c.clock p
+  act-did (hear_again r n l i v) = hear-row c.clock p m.counter (p.link.sync + 1) _ l (omega arith)
+  act-did (hear_last r n l i v) = hear-row c.clock p m.counter p.link.sync None l (omega arith)
+  act-did end_link = end_row c.clock p
 
   pub commit-did : m.sequence ≡ 1 → Did c.clock p (perform t c p m (commit_act t c p m))
   commit-did f = act-did (commit-asked t c p m f)
@@ -529,23 +529,23 @@ module _ (t : Terms) (c : Call) (p : Peer) (m : Message) (h : p.run.state ≡ 2)
   pub act-stands : {a : Act} → Asked t c p m a → Stands p (perform t c p m a)
   unfolding perform resending_both confirming_again
   act-stands (drop d) = drop-stands p
-  act-stands (refuse-group r z l) = absurd (r.not-confirmed h)
-  act-stands (ask-token r z l) = absurd (r.not-confirmed h)
-  act-stands (no-slot r e) = absurd (r.not-confirmed h)
-  act-stands (begin r e) = absurd (r.not-confirmed h)
-  act-stands (answer-commit d r o e) = absurd (d h)
-  act-stands (confirm-commit s o g e) = absurd (omega (arith, h, s))
-  act-stands (reply-token s z g) = absurd (omega (arith, h, s))
-  act-stands (switch-group s z g) = absurd (omega (arith, h, s))
-  act-stands (repeat-commit s z) = absurd (omega (arith, h, s))
-  act-stands (repeat-refusal s z l) = absurd (omega (arith, h, s))
-  act-stands (resend-both s z l g) = count-stands p c.clock _ _
-  act-stands (confirm-again s z) = repeat-outcomes (Stands p) c.clock p _ _ (λ e. abandon-stands p) (λ e. count-stands p c.clock _ _)
-  act-stands (give-up s z e) = abandon-stands p
+  act-stands (refuse_group r z l) = absurd (r.not_confirmed h)
+  act-stands (ask_token r z l) = absurd (r.not_confirmed h)
+  act-stands (no-slot r e) = absurd (r.not_confirmed h)
+  act-stands (begin r e) = absurd (r.not_confirmed h)
+  act-stands (answer_commit d r o e) = absurd (d h)
+  act-stands (confirm_commit s o g e) = absurd (omega (arith, h, s))
+  act-stands (reply_token s z g) = absurd (omega (arith, h, s))
+  act-stands (switch_group s z g) = absurd (omega (arith, h, s))
+  act-stands (repeat_commit s z) = absurd (omega (arith, h, s))
+  act-stands (repeat_refusal s z l) = absurd (omega (arith, h, s))
+  act-stands (resend_both s z l g) = count-stands p c.clock _ _
+  act-stands (confirm_again s z) = repeat-outcomes (Stands p) c.clock p _ _ (λ e. abandon-stands p) (λ e. count-stands p c.clock _ _)
+  act-stands (give_up s z e) = abandon-stands p
   act-stands (accept s d z v) = accept-stands p _ c.clock.time
-  act-stands (hear-again r n l i v) = absurd (r.not-confirmed h)
-  act-stands (hear-last r n l i v) = absurd (r.not-confirmed h)
-  act-stands end-link = end-stands p h
+  act-stands (hear_again r n l i v) = absurd (r.not_confirmed h)
+  act-stands (hear_last r n l i v) = absurd (r.not_confirmed h)
+  act-stands end_link = end-stands p h
 
   pub commit-stands : m.sequence ≡ 1 → Stands p (perform t c p m (commit_act t c p m))
   commit-stands f = act-stands (commit-asked t c p m f)

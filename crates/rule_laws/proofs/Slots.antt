@@ -14,7 +14,7 @@ use Rattle.rules.specs.declared.Act.TheVariants as act
 use Rattle.rules.specs.Parts.{with_link}
 use Rattle.rules.specs.declared.Clock.{Clock}
 use Rattle.rules.specs.Book.{◌is◌, holds, Terms, Call, Step, silence, t0_due, perform, sending, answering, refusing, settled, abandoning, ending_link, retransmitting, dropping, forming, starting, switching, accepting, answering_commit, confirming_commit, replying_token, repeating_commit, repeating_refusal, resending_both, confirming_again, hearing_again, hearing_last, start_act, frame_act, clock_act, on_frame, on_clock, on_start}
-use Rattle.rules.specs.Asked.{Asked, refuse-group, ask-token, no-slot, begin, answer-commit, confirm-commit, reply-token, switch-group, repeat-commit, repeat-refusal, resend-both, confirm-again, give-up, accept, hear-again, hear-last, end-link, drop}
+use Rattle.rules.specs.Asked.{Asked, refuse_group, ask_token, no-slot, begin, answer_commit, confirm_commit, reply_token, switch_group, repeat_commit, repeat_refusal, resend_both, confirm_again, give_up, accept, hear_again, hear_last, end_link, drop}
 use Rattle.rules.proofs.Ladders.{frame-asked}
 use Rattle.rule_laws.specs.Slots.{is_no_slot}
 use Rattle.rule_laws.proofs.Outcomes.{switch-outcomes, repeat-outcomes}
@@ -65,45 +65,45 @@ module _ (t : Terms) (c : Call) (p : Peer) (m : Message) where
   -- with a slot
   pub seated-act : {a : Act} → t.full ≡ false → Asked t c p m a → is_no_slot a ≡ false
   seated-act f (drop d) = refl
-  seated-act f (refuse-group r z l) = refl
-  seated-act f (ask-token r z l) = refl
+  seated-act f (refuse_group r z l) = refl
+  seated-act f (ask_token r z l) = refl
   seated-act f (no-slot r e) = absurd (clash e f)
   seated-act f (begin r e) = refl
-  seated-act f (answer-commit d r o e) = refl
-  seated-act f (confirm-commit s o g e) = refl
-  seated-act f (reply-token s z g) = refl
-  seated-act f (switch-group s z g) = refl
-  seated-act f (repeat-commit s z) = refl
-  seated-act f (repeat-refusal s z l) = refl
-  seated-act f (resend-both s z l g) = refl
-  seated-act f (confirm-again s z) = refl
-  seated-act f (give-up s z e) = refl
+  seated-act f (answer_commit d r o e) = refl
+  seated-act f (confirm_commit s o g e) = refl
+  seated-act f (reply_token s z g) = refl
+  seated-act f (switch_group s z g) = refl
+  seated-act f (repeat_commit s z) = refl
+  seated-act f (repeat_refusal s z l) = refl
+  seated-act f (resend_both s z l g) = refl
+  seated-act f (confirm_again s z) = refl
+  seated-act f (give_up s z e) = refl
   seated-act f (accept s d z v) = refl
-  seated-act f (hear-again r n l i v) = refl
-  seated-act f (hear-last r n l i v) = refl
-  seated-act f end-link = refl
+  seated-act f (hear_again r n l i v) = refl
+  seated-act f (hear_last r n l i v) = refl
+  seated-act f end_link = refl
 
   -- without a slot: an act that is not refused leaves the free record free
   pub unseated-act : {a : Act} → p ≡ no_peer → Asked t c p m a → t.full ≡ true → (perform t c p m a).refused ≡ false → (perform t c p m a).peer ≡ no_peer
   unfolding perform dropping answering refusing
   unseated-act e (drop d) f u = e
-  unseated-act e (refuse-group r z l) f u = e
-  unseated-act e (ask-token r z l) f u = e
+  unseated-act e (refuse_group r z l) f u = e
+  unseated-act e (ask_token r z l) f u = e
   unseated-act e (no-slot r z) f u = e
   unseated-act e (begin r z) f u = absurd (clash f z)
-  unseated-act e (answer-commit d r o z) f u = absurd (clash f (r (λ s. omega (arith, free-run p e))))
-  unseated-act e (confirm-commit s o g z) f u = absurd (omega (arith, free-run p e))
-  unseated-act e (reply-token s z g) f u = absurd (omega (arith, free-run p e))
-  unseated-act e (switch-group s z g) f u = absurd (omega (arith, free-run p e))
-  unseated-act e (repeat-commit s z) f u = absurd (omega (arith, free-run p e))
-  unseated-act e (repeat-refusal s z l) f u = absurd (omega (arith, free-run p e))
-  unseated-act e (resend-both s z l g) f u = absurd (omega (arith, free-run p e))
-  unseated-act e (confirm-again s z) f u = absurd (omega (arith, free-run p e))
-  unseated-act e (give-up s z h) f u = absurd (omega (arith, free-run p e))
+  unseated-act e (answer_commit d r o z) f u = absurd (clash f (r (λ s. omega (arith, free-run p e))))
+  unseated-act e (confirm_commit s o g z) f u = absurd (omega (arith, free-run p e))
+  unseated-act e (reply_token s z g) f u = absurd (omega (arith, free-run p e))
+  unseated-act e (switch_group s z g) f u = absurd (omega (arith, free-run p e))
+  unseated-act e (repeat_commit s z) f u = absurd (omega (arith, free-run p e))
+  unseated-act e (repeat_refusal s z l) f u = absurd (omega (arith, free-run p e))
+  unseated-act e (resend_both s z l g) f u = absurd (omega (arith, free-run p e))
+  unseated-act e (confirm_again s z) f u = absurd (omega (arith, free-run p e))
+  unseated-act e (give_up s z h) f u = absurd (omega (arith, free-run p e))
   unseated-act e (accept s d z v) f u = absurd (omega (arith, free-run p e))
-  unseated-act e (hear-again r n l i v) f u = absurd (n (free-link p e))
-  unseated-act e (hear-last r n l i v) f u = absurd (n (free-link p e))
-  unseated-act e end-link f u = ap (λ (q : Peer). (ending_link q).peer) e ∙ free_ended
+  unseated-act e (hear_again r n l i v) f u = absurd (n (free-link p e))
+  unseated-act e (hear_last r n l i v) f u = absurd (n (free-link p e))
+  unseated-act e end_link f u = ap (λ (q : Peer). (ending_link q).peer) e ∙ free_ended
 
   -- a frame
   pub frame_refused : (on_frame t c p m).refused ≡ is_no_slot (frame_act t c p m)

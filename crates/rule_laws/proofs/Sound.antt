@@ -17,7 +17,7 @@ use Rattle.rules.specs.Message.{Message}
 use Rattle.rules.specs.declared.Act.{Act}
 use Rattle.rules.specs.declared.Act.TheVariants as act
 use Rattle.rules.specs.Book.{◌is◌, holds, Terms, Call, Step, silence, t0_due, perform, dropping, refusing, answering_commit, confirming_commit, repeating_commit, repeating_refusal, confirming_again, resending_both, hearing_again, hearing_last, commit_act, confirm_act, clock_act, on_frame, on_clock, on_start}
-use Rattle.rules.specs.Asked.{NoRun, Asked, refuse-group, ask-token, no-slot, begin, answer-commit, confirm-commit, reply-token, switch-group, repeat-commit, repeat-refusal, resend-both, confirm-again, give-up, accept, hear-again, hear-last, end-link, drop}
+use Rattle.rules.specs.Asked.{NoRun, Asked, refuse_group, ask_token, no-slot, begin, answer_commit, confirm_commit, reply_token, switch_group, repeat_commit, repeat_refusal, resend_both, confirm_again, give_up, accept, hear_again, hear_last, end_link, drop}
 use Rattle.rules.proofs.Ladders.{start-asked, commit-asked, confirm-asked, frame-asked, clock-asked}
 use Rattle.rule_laws.proofs.Outcomes.{repeat-outcomes}
 use Rattle.rule_laws.proofs.Keeps.{Place, Lists, Stored, Stock, Heard, Kept, Keeps, parts, listed_at, fresh-stored, heard-stored, answer_keeps, abandon-keeps, end-keeps, form-keeps, accept-keeps, hear-keeps, same-keeps, raised_keeps, start-keeps, switch-keeps, reply-keeps}
@@ -69,30 +69,30 @@ module _ (t : Terms) (c : Call) (p : Peer) (m : Message) (h : Handed t c m) (k :
   pub sound-act : {a : Act} → (uses_fresh a ≡ true → Stock t.groups c.fresh) → Asked t c p m a → Sound (perform t c p m a)
   unfolding perform dropping refusing answering_commit confirming_commit repeating_commit repeating_refusal confirming_again resending_both hearing_again hearing_last
   sound-act S (drop d) = answer_keeps _ _ _ _ p _ k
-  sound-act S (refuse-group r z l) = answer_keeps _ _ _ _ p _ k
-  sound-act S (ask-token r z l) = answer_keeps _ _ _ _ p _ k
+  sound-act S (refuse_group r z l) = answer_keeps _ _ _ _ p _ k
+  sound-act S (ask_token r z l) = answer_keeps _ _ _ _ p _ k
   sound-act S (no-slot r e) = record { kept = k }
   sound-act S (begin r e) = start-keeps _ _ _ _ c.clock p _ _ h.place h.lists k (listed_at t.groups 0 _ h.some refl) ((S refl).each 0 h.some)
-  sound-act S (answer-commit d r o e) =
+  sound-act S (answer_commit d r o e) =
       let g = h.heard.group o.listed in
       form-keeps _ _ _ _ c.clock p c.address m.group _ m.commit _ _ h.place h.lists k refl g (fresh-stored t.groups c.fresh m.group (S refl) g)
       (heard-stored t.own t.groups (c.clock.limit + 1) c.address m h.heard o.listed)
-  sound-act S (confirm-commit s o g e) =
+  sound-act S (confirm_commit s o g e) =
       form-keeps _ _ _ _ c.clock p c.address m.group _ m.commit _ _ h.place h.lists k refl (h.heard.group o.listed) (stored-own s g)
       (heard-stored t.own t.groups (c.clock.limit + 1) c.address m h.heard o.listed)
-  sound-act S (reply-token s z g) = reply-keeps _ _ _ _ c.clock p m within h.low h.heard k s
-  sound-act S (switch-group s z g) = switch-keeps _ _ _ _ c.clock p c.fresh h.lists (S refl) k s
-  sound-act S (repeat-commit s z) = same-keeps _ _ _ _ c.clock p _ within h.low k s
-  sound-act S (repeat-refusal s z l) = same-keeps _ _ _ _ c.clock p _ within h.low k s
-  sound-act S (resend-both s z l g) = raised_keeps _ _ _ _ c.clock p _ k s (omega arith) h.low
-  sound-act S (confirm-again s z) =
+  sound-act S (reply_token s z g) = reply-keeps _ _ _ _ c.clock p m within h.low h.heard k s
+  sound-act S (switch_group s z g) = switch-keeps _ _ _ _ c.clock p c.fresh h.lists (S refl) k s
+  sound-act S (repeat_commit s z) = same-keeps _ _ _ _ c.clock p _ within h.low k s
+  sound-act S (repeat_refusal s z l) = same-keeps _ _ _ _ c.clock p _ within h.low k s
+  sound-act S (resend_both s z l g) = raised_keeps _ _ _ _ c.clock p _ k s (omega arith) h.low
+  sound-act S (confirm_again s z) =
       repeat-outcomes Sound c.clock p _ _ (λ e. abandon-keeps _ _ _ _ p k) (λ e. raised_keeps _ _ _ _ c.clock p _ k s (omega arith) h.low)
-  sound-act S (give-up s z e) = abandon-keeps _ _ _ _ p k
+  sound-act S (give_up s z e) = abandon-keeps _ _ _ _ p k
   sound-act S (accept s d z v) = accept-keeps _ _ _ _ p m.counter c.clock.time k s h.counter
-  sound-act S (hear-again r n l i v) = hear-keeps _ _ _ _ p m.counter _ _ k n h.counter (omega arith) h.low
-  sound-act S (hear-last r n l i v) =
+  sound-act S (hear_again r n l i v) = hear-keeps _ _ _ _ p m.counter _ _ k n h.counter (omega arith) h.low
+  sound-act S (hear_last r n l i v) =
       hear-keeps _ _ _ _ p m.counter _ _ k n h.counter (link-is-finished t.groups (c.clock.limit + 1) p.link n (parts t.own t.groups (c.clock.limit + 1) c.address p k).link).sync h.low
-  sound-act S end-link = end-keeps _ _ _ _ p k
+  sound-act S end_link = end-keeps _ _ _ _ p k
 
   -- whatever Commit, Confirm or frame comes
   module _ (S : Stock t.groups c.fresh) where

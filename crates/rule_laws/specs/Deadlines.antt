@@ -11,4 +11,4 @@ pub record Still (p q : Peer) : Type 0 where
 -- its run or its link ends. The starts need no row of their own: a run starts with a Commit sent, and a link as its run ends, also where it replaces a link.
 pub data Ends (p q : Peer) : Type 0 where
   run_ends : has_run p ≡ true → has_run q ≡ false → Ends p q
-  link-ends : has_link p ≡ true → has_link q ≡ false → Ends p q
+  link_ends : has_link p ≡ true → has_link q ≡ false → Ends p q

@@ -12,7 +12,7 @@ use Rattle.rules.specs.declared.Act.{Act}
 use Rattle.rules.specs.declared.Act.TheVariants.{Drop}
 use Rattle.rules.specs.declared.Frames.TheVariants.{None}
 use Rattle.rules.specs.Book.{◌isnt◌, ◌above◌, holds, Terms, Call, linked_with, linked, wrong_token, equals_fresh, equals_own, unverified, answering, dropping, hearing_last, perform, commit_idle, commit_committed, commit_confirmed, confirm_committed, confirm_confirmed, confirm_linked, commit_act, confirm_act, frame_act, on_frame}
-use Rattle.rules.specs.Asked.{NoRun, Asked, drop, Drops, idle-status, idle-linked, idle-token, idle-equal, idle-verdict, committed-76, committed-77, committed-status, lower-verdict, lower-equal, ours-equal, ours-verdict, committed-confirm, confirmed-status, confirmed-group, confirmed-confirm, confirmed-verdict, link-status, link-counter, link-verdict, neither}
+use Rattle.rules.specs.Asked.{NoRun, Asked, drop, Drops, idle_status, idle_linked, idle_token, idle_equal, idle_verdict, committed_76, committed_77, committed_status, lower_verdict, lower_equal, ours_equal, ours_verdict, committed_confirm, confirmed_status, confirmed_group, confirmed_confirm, confirmed_verdict, link_status, link_counter, link_verdict, neither}
 use Rattle.rules.proofs.Ladders.{frame-asked}
 
 -- a rung that drops, above one that does
@@ -24,38 +24,38 @@ module _ (t : Terms) (c : Call) (p : Peer) (m : Message) where
   -- every place is a drop
   pub drop_named : Drops t c p m → frame_act t c p m ≡ Drop
   unfolding frame_act commit_act confirm_act commit_idle commit_committed commit_confirmed confirm_committed confirm_confirmed confirm_linked holds linked_with
-  drop_named (idle-status r f d) = rw (f, ne_eqb _ _ r.not-committed, ne_eqb _ _ r.not-confirmed, ne_eqb _ _ d) refl
-  drop_named (idle-linked r s e) = rw (s.commit, s.status, s.listed, ne_eqb _ _ r.not-committed, ne_eqb _ _ r.not-confirmed, e) refl
-  drop_named (idle-token r w e) =
+  drop_named (idle_status r f d) = rw (f, ne_eqb _ _ r.not_committed, ne_eqb _ _ r.not_confirmed, ne_eqb _ _ d) refl
+  drop_named (idle_linked r s e) = rw (s.commit, s.status, s.listed, ne_eqb _ _ r.not_committed, ne_eqb _ _ r.not_confirmed, e) refl
+  drop_named (idle_token r w e) =
       let s = w.supported in
-      rw (s.commit, s.status, s.listed, ne_eqb _ _ r.not-committed, ne_eqb _ _ r.not-confirmed, w.token, e) (drops-too (linked p m) Drop refl)
-  drop_named (idle-equal r w e) =
+      rw (s.commit, s.status, s.listed, ne_eqb _ _ r.not_committed, ne_eqb _ _ r.not_confirmed, w.token, e) (drops-too (linked p m) Drop refl)
+  drop_named (idle_equal r w e) =
       let s = w.supported in
-      rw (s.commit, s.status, s.listed, ne_eqb _ _ r.not-committed, ne_eqb _ _ r.not-confirmed, w.token, e)
+      rw (s.commit, s.status, s.listed, ne_eqb _ _ r.not_committed, ne_eqb _ _ r.not_confirmed, w.token, e)
       (drops-too (linked p m) _ (drops-too (wrong_token t c m) Drop refl))
-  drop_named (idle-verdict r w e) =
+  drop_named (idle_verdict r w e) =
       let s = w.supported in
-      rw (s.commit, s.status, s.listed, ne_eqb _ _ r.not-committed, ne_eqb _ _ r.not-confirmed, w.token, e)
+      rw (s.commit, s.status, s.listed, ne_eqb _ _ r.not_committed, ne_eqb _ _ r.not_confirmed, w.token, e)
       (drops-too (linked p m) _ (drops-too (wrong_token t c m) _ (drops-too (equals_fresh t c m) Drop refl)))
-  drop_named (committed-76 s f e d) = rw (s, f, e, ne_eqb _ _ d) refl
-  drop_named (committed-77 s f e d) = rw (s, f, e, ne_eqb _ _ d) refl
-  drop_named (committed-status s f x y d) = rw (s, f, ne_eqb _ _ x, ne_eqb _ _ y, ne_eqb _ _ d) refl
-  drop_named (lower-verdict s k d h e) = rw (s, k.commit, k.status, k.listed, ne_eqb _ _ d, h, e) refl
-  drop_named (lower-equal s k d h e) = rw (s, k.commit, k.status, k.listed, ne_eqb _ _ d, h, e) (drops-too (unverified c) Drop refl)
-  drop_named (ours-equal s k g e) = rw (s, k.commit, k.status, k.listed, eq-eqb _ _ g, e) refl
-  drop_named (ours-verdict s k g e) = rw (s, k.commit, k.status, k.listed, eq-eqb _ _ g, e) (drops-too (equals_own p m) Drop refl)
-  drop_named (committed-confirm s f d) = rw (s, ne_eqb _ _ f, ne_eqb _ _ d) refl
-  drop_named (confirmed-status s f d) = rw (s, f, ne_eqb _ _ d) refl
-  drop_named (confirmed-group s f l d) = rw (s, f, le-ltb _ _ l, ne_eqb _ _ d) (drops-too (m.status isnt 0) Drop refl)
-  drop_named (confirmed-confirm s f d) = rw (s, ne_eqb _ _ f, ne_eqb _ _ d) refl
-  drop_named (confirmed-verdict s f e) = rw (s, ne_eqb _ _ f, e) (drops-too (m.status isnt 0) Drop refl)
-  drop_named (link-status r n f d) = rw (ne_eqb _ _ r.not-committed, ne_eqb _ _ r.not-confirmed, ne_eqb _ _ n, ne_eqb _ _ f, ne_eqb _ _ d) refl
-  drop_named (link-counter r n f l e) =
-      rw (ne_eqb _ _ r.not-committed, ne_eqb _ _ r.not-confirmed, ne_eqb _ _ n, ne_eqb _ _ f, le-ltb _ _ l, le-ltb _ _ e) (drops-too (m.status isnt 0) Drop refl)
-  drop_named (link-verdict r n f l e) =
-      rw (ne_eqb _ _ r.not-committed, ne_eqb _ _ r.not-confirmed, ne_eqb _ _ n, ne_eqb _ _ f, le-ltb _ _ l, e)
+  drop_named (committed_76 s f e d) = rw (s, f, e, ne_eqb _ _ d) refl
+  drop_named (committed_77 s f e d) = rw (s, f, e, ne_eqb _ _ d) refl
+  drop_named (committed_status s f x y d) = rw (s, f, ne_eqb _ _ x, ne_eqb _ _ y, ne_eqb _ _ d) refl
+  drop_named (lower_verdict s k d h e) = rw (s, k.commit, k.status, k.listed, ne_eqb _ _ d, h, e) refl
+  drop_named (lower_equal s k d h e) = rw (s, k.commit, k.status, k.listed, ne_eqb _ _ d, h, e) (drops-too (unverified c) Drop refl)
+  drop_named (ours_equal s k g e) = rw (s, k.commit, k.status, k.listed, eq-eqb _ _ g, e) refl
+  drop_named (ours_verdict s k g e) = rw (s, k.commit, k.status, k.listed, eq-eqb _ _ g, e) (drops-too (equals_own p m) Drop refl)
+  drop_named (committed_confirm s f d) = rw (s, ne_eqb _ _ f, ne_eqb _ _ d) refl
+  drop_named (confirmed_status s f d) = rw (s, f, ne_eqb _ _ d) refl
+  drop_named (confirmed_group s f l d) = rw (s, f, le-ltb _ _ l, ne_eqb _ _ d) (drops-too (m.status isnt 0) Drop refl)
+  drop_named (confirmed_confirm s f d) = rw (s, ne_eqb _ _ f, ne_eqb _ _ d) refl
+  drop_named (confirmed_verdict s f e) = rw (s, ne_eqb _ _ f, e) (drops-too (m.status isnt 0) Drop refl)
+  drop_named (link_status r n f d) = rw (ne_eqb _ _ r.not_committed, ne_eqb _ _ r.not_confirmed, ne_eqb _ _ n, ne_eqb _ _ f, ne_eqb _ _ d) refl
+  drop_named (link_counter r n f l e) =
+      rw (ne_eqb _ _ r.not_committed, ne_eqb _ _ r.not_confirmed, ne_eqb _ _ n, ne_eqb _ _ f, le-ltb _ _ l, le-ltb _ _ e) (drops-too (m.status isnt 0) Drop refl)
+  drop_named (link_verdict r n f l e) =
+      rw (ne_eqb _ _ r.not_committed, ne_eqb _ _ r.not_confirmed, ne_eqb _ _ n, ne_eqb _ _ f, le-ltb _ _ l, e)
       (drops-too (m.status isnt 0) _ (drops-too (not (m.counter above p.link.rc)) Drop refl))
-  drop_named (neither r n f) = rw (ne_eqb _ _ r.not-committed, ne_eqb _ _ r.not-confirmed, eq-eqb _ _ n, ne_eqb _ _ f) refl
+  drop_named (neither r n f) = rw (ne_eqb _ _ r.not_committed, ne_eqb _ _ r.not_confirmed, eq-eqb _ _ n, ne_eqb _ _ f) refl
 
   -- and there is no other
   place : Asked t c p m Drop → Drops t c p m
@@ -74,4 +74,4 @@ module _ (t : Terms) (c : Call) (p : Peer) (m : Message) where
       → m.counter ≡ 65535 → c.verified ≡ true → on_frame t c p m ≡ answering (with_link p (heard_again p.link 65535 p.link.sync)) None
   unfolding on_frame frame_act confirm_act confirm_linked holds perform hearing_last
   last-heard r n f z l h e v =
-      rw (ne_eqb _ _ r.not-committed, ne_eqb _ _ r.not-confirmed, ne_eqb _ _ n, ne_eqb _ _ f, z, le-ltb _ _ l, lt-ltb _ _ h, v, e) refl
+      rw (ne_eqb _ _ r.not_committed, ne_eqb _ _ r.not_confirmed, ne_eqb _ _ n, ne_eqb _ _ f, z, le-ltb _ _ l, lt-ltb _ _ h, v, e) refl

@@ -15,7 +15,7 @@ use Rattle.octets.proofs.Laws.{num-oct}
 use Rattle.frame.specs.Frame.{field, elements_of, read_body, token_of, value_of}
 use Rattle.frame.specs.declared.Body.{Body}
 use Rattle.frame.specs.declared.Body.TheVariants as body
-use Rattle.frame.proofs.Laws.{commit-is}
+use Rattle.frame.proofs.Laws.{commit_is}
 use Rattle.frame.proofs.Shapes.{field_fits, commit-shape, other-group-shape, token-request-shape, group-refusal-shape}
 use Rattle.frame.proofs.Shapes.{other-commit-shape, confirm-shape, other-confirm-shape}
 use Rattle.table.specs.Table.{decode_table, look, sound}
@@ -118,7 +118,7 @@ read-confirm s x rest = record { sequence = 2; status = x; group = 0; counter = 
 
 laid_by : (s : List ℕ) (B : Body) → laid_out s (view_of B) ≡ parts_of s (view_of B)
 unfolding handed_at handed_length rest_at token_from rest_from rest_of token_of value_of part
-laid_by s (body.Commit g n) = rw (ne_eqb (8 + n) 0 (λ z. omega arith), commit-is s g n)
+laid_by s (body.Commit g n) = rw (ne_eqb (8 + n) 0 (λ z. omega arith), commit_is s g n)
 laid_by s (body.Unsupported g) = refl
 laid_by s (body.TokenRequest g n) = refl
 laid_by s (body.GroupRefusal g) = refl
@@ -147,7 +147,7 @@ handed-by gs s (body.TokenRequest g n) e = omega (arith, (token-request-shape gs
 handed-by gs s (body.GroupRefusal g) e = lit≤ tt
 handed-by gs s (body.OtherCommit x) e = lit≤ tt
 handed-by gs s (body.Confirm n) e = omega (arith, length-drop 40 s, (confirm-shape gs s n e).head.longest)
-handed-by gs s (body.OtherConfirm x) e = rw (ne_eqb x 0 (other-confirm-shape gs s x e).not-zero) (lit≤ tt)
+handed-by gs s (body.OtherConfirm x) e = rw (ne_eqb x 0 (other-confirm-shape gs s x e).not_zero) (lit≤ tt)
 handed-by gs s body.Malformed e = lit≤ tt
 
 handed-short : (gs s : List ℕ) → handed_length (view gs s) s ≤ 2304

@@ -96,7 +96,7 @@ expire-refuses t time = go (sound t) (due_slot (decode_table t) time)
 -- nothing that was lent is changed
 pub record Untouched (t u given answer : List ℕ) : Type 0 where
   pub table : u ≡ t
-  pub answer-kept : answer ≡ given
+  pub answer_kept : answer ≡ given
 
 pub call-refused : (t u answer given : List ℕ) (r : ℕ) (l : Left) → Refuses t l → Returns r u answer given l → (r ≡ 0 → ⊥) → Untouched t u given answer
 unfolding answer_left
@@ -105,7 +105,7 @@ call-refused t u answer given r l f e d = go l.answer.outcome refl
     go : (o : Outcome) → l.answer.outcome ≡ o → Untouched t u given answer
     go outcome.Done q = absurd (d (e.returns ∙ ap returned q))
     go outcome.NoneDue q = absurd (d (e.returns ∙ ap returned q))
-    go (outcome.Refused c) q = record { table = e.leaves ∙ f.leaves c q; answer-kept = e.answers ∙ rw q }
+    go (outcome.Refused c) q = record { table = e.leaves ∙ f.leaves c q; answer_kept = e.answers ∙ rw q }
 
 -- ---- the reader
 
@@ -123,14 +123,14 @@ read-refused r parts given t frame e d = go (sound t) ((view (groups_of (decode_
 
 pub record Unwritten (out left : List ℕ) (given written : ℕ) : Type 0 where
   pub buffer : left ≡ out
-  pub length-kept : written ≡ given
+  pub length_kept : written ≡ given
 
 write-refused : (l : LeftOut) (out left : List ℕ) (r written given : ℕ) → ((c : Refusal) → l.answer ≡ wrote.Refused c → l.out ≡ out) → Writes r left written given l → (r ≡ 0 → ⊥) → Unwritten out left given written
 write-refused l out left r written given f e d = go l.answer refl
   where
     go : (w : Wrote) → l.answer ≡ w → Unwritten out left given written
     go (wrote.Length n) q = absurd (d (e.returns ∙ ap wrote_number q))
-    go (wrote.Refused c) q = record { buffer = e.leaves ∙ f c q; length-kept = e.counts ∙ ap (λ (w : Wrote). written_left w given) q }
+    go (wrote.Refused c) q = record { buffer = e.leaves ∙ f c q; length_kept = e.counts ∙ ap (λ (w : Wrote). written_left w given) q }
 
 pub write-parts-refused : (t : List ℕ) (q x g n : ℕ) (token rest out left : List ℕ) (r written given : ℕ) → Writes r left written given (writes_parts t q x g n token rest out) → (r ≡ 0 → ⊥) → Unwritten out left given written
 write-parts-refused t q x g n token rest out left r written given e d = write-refused _ out left r written given (parts-refused t q x g n token rest out) e d

@@ -25,7 +25,7 @@ use Rattle.record.specs.declared.Geometry.{Geometry}
 use Rattle.record.specs.declared.Counts.{Counts}
 use Rattle.record.specs.declared.Settings.{Settings}
 use Rattle.record.specs.declared.Header.{Header}
-use Rattle.record.proofs.Laws.{ShapeRun, ShapeLink, ShapePeer, zero-run, zero-link, zero-peer, zeros-run, zeros-link, zeros-peer, FormOf, is-narrow, is_wide, is_none, form-of, Served, form-served, form-groups, form-slots}
+use Rattle.record.proofs.Laws.{ShapeRun, ShapeLink, ShapePeer, zero-run, zero-link, zero-peer, zeros-run, zeros-link, zeros-peer, FormOf, is_narrow, is_wide, is_none, form-of, Served, form-served, form-groups, form-slots}
 use Rattle.soundness.specs.Soundness.{own_ok, usable, all_listable, each_once, groups_ok, period_ok, limit_ok, settings_ok, geometry_ok, header_ok, high_sync, commit_ok, token_ok, rejected_ok, committed_ok, confirmed_ok, run_ok, finished_ok, link_ok, free_ok, in_use_ok, peer_ok, bounds_ok}
 
 -- ---- unused parts
@@ -414,7 +414,7 @@ header-forms h ok = go (form-of h.geometry.size)
     listing = header-groups h ok
 
     go : FormOf h.geometry.size → NarrowHeader h ⊎ WideHeader h
-    go (is-narrow e f) = inl (record {
+    go (is_narrow e f) = inl (record {
       size = e;
       slots = subst (λ (x : Form). h.geometry.slots ≤ x.slots) f few;
       count = subst (λ (x : Form). h.settings.count ≤ x.groups) f listing.few;

@@ -175,10 +175,10 @@ recount-law t v m n b h e en =
 
 -- where m octets at `at` are when a record of s octets is placed at r and the counts are put: aside of all of these
 pub data Elsewhere (r s at m : ℕ) : Type 0 where
-  before-counts : at + m ≤ 2 → Elsewhere r s at m
-  between-counts : 6 ≤ at → at + m ≤ 12 → Elsewhere r s at m
-  before-record : 14 ≤ at → at + m ≤ r → Elsewhere r s at m
-  past-record : r + s ≤ at → Elsewhere r s at m
+  before_counts : at + m ≤ 2 → Elsewhere r s at m
+  between_counts : 6 ≤ at → at + m ≤ 12 → Elsewhere r s at m
+  before_record : 14 ≤ at → at + m ≤ r → Elsewhere r s at m
+  past_record : r + s ≤ at → Elsewhere r s at m
 
 -- A RECORD PLACED, with its counts, is three puts
 module _ (t : List ℕ) (n k : ℕ) (p : Peer) (b : Bytes t) (h : length t ≡ record_at (width_of t) n) (l : k < n) (f : ShapePeer width p) where
@@ -224,22 +224,22 @@ module _ (t : List ℕ) (n k : ℕ) (p : Peer) (b : Bytes t) (h : length t ≡ r
   Aside = Elsewhere (record_at (width_of t) k) (record_size (width_of t))
 
   beside-good : (at m : ℕ) → Aside at m → part (put (put stored-in 2 four) 12 two) at m ≡ part (put stored-in 2 four) at m
-  beside-good at m (before-counts x) = part-put-before (put stored-in 2 four) 12 two at m (omega (arith, length-counted, long)) (omega (arith, x))
-  beside-good at m (between-counts x y) = part-put-before (put stored-in 2 four) 12 two at m (omega (arith, length-counted, long)) y
-  beside-good at m (before-record x y) = part-put-after (put stored-in 2 four) 12 two at m (omega (arith, length-counted, length_two, long)) (omega (arith, length_two, x))
-  beside-good at m (past-record x) = part-put-after (put stored-in 2 four) 12 two at m (omega (arith, length-counted, length_two, long)) (omega (arith, length_two, x, after-header (width_of t) k))
+  beside-good at m (before_counts x) = part-put-before (put stored-in 2 four) 12 two at m (omega (arith, length-counted, long)) (omega (arith, x))
+  beside-good at m (between_counts x y) = part-put-before (put stored-in 2 four) 12 two at m (omega (arith, length-counted, long)) y
+  beside-good at m (before_record x y) = part-put-after (put stored-in 2 four) 12 two at m (omega (arith, length-counted, length_two, long)) (omega (arith, length_two, x))
+  beside-good at m (past_record x) = part-put-after (put stored-in 2 four) 12 two at m (omega (arith, length-counted, length_two, long)) (omega (arith, length_two, x, after-header (width_of t) k))
 
   beside-front : (at m : ℕ) → Aside at m → part (put stored-in 2 four) at m ≡ part stored-in at m
-  beside-front at m (before-counts x) = part-put-before stored-in 2 four at m (omega (arith, length-stored, long)) x
-  beside-front at m (between-counts x y) = part-put-after stored-in 2 four at m (omega (arith, length-stored, length-four, long)) (omega (arith, length-four, x))
-  beside-front at m (before-record x y) = part-put-after stored-in 2 four at m (omega (arith, length-stored, length-four, long)) (omega (arith, length-four, x))
-  beside-front at m (past-record x) = part-put-after stored-in 2 four at m (omega (arith, length-stored, length-four, long)) (omega (arith, length-four, x, after-header (width_of t) k))
+  beside-front at m (before_counts x) = part-put-before stored-in 2 four at m (omega (arith, length-stored, long)) x
+  beside-front at m (between_counts x y) = part-put-after stored-in 2 four at m (omega (arith, length-stored, length-four, long)) (omega (arith, length-four, x))
+  beside-front at m (before_record x y) = part-put-after stored-in 2 four at m (omega (arith, length-stored, length-four, long)) (omega (arith, length-four, x))
+  beside-front at m (past_record x) = part-put-after stored-in 2 four at m (omega (arith, length-stored, length-four, long)) (omega (arith, length-four, x, after-header (width_of t) k))
 
   beside-record : (at m : ℕ) → Aside at m → part stored-in at m ≡ part t at m
-  beside-record at m (before-counts x) = part-put-before t (record_at (width_of t) k) (encode_peer (width_of t) p) at m (omega (arith, inside)) (omega (arith, x, after-header (width_of t) k))
-  beside-record at m (between-counts x y) = part-put-before t (record_at (width_of t) k) (encode_peer (width_of t) p) at m (omega (arith, inside)) (omega (arith, y, after-header (width_of t) k))
-  beside-record at m (before-record x y) = part-put-before t (record_at (width_of t) k) (encode_peer (width_of t) p) at m (omega (arith, inside)) y
-  beside-record at m (past-record x) = part-put-after t (record_at (width_of t) k) (encode_peer (width_of t) p) at m (omega (arith, length-record, inside)) (omega (arith, length-record, x))
+  beside-record at m (before_counts x) = part-put-before t (record_at (width_of t) k) (encode_peer (width_of t) p) at m (omega (arith, inside)) (omega (arith, x, after-header (width_of t) k))
+  beside-record at m (between_counts x y) = part-put-before t (record_at (width_of t) k) (encode_peer (width_of t) p) at m (omega (arith, inside)) (omega (arith, y, after-header (width_of t) k))
+  beside-record at m (before_record x y) = part-put-before t (record_at (width_of t) k) (encode_peer (width_of t) p) at m (omega (arith, inside)) y
+  beside-record at m (past_record x) = part-put-after t (record_at (width_of t) k) (encode_peer (width_of t) p) at m (omega (arith, length-record, inside)) (omega (arith, length-record, x))
 
   pub placed-outside : (at m : ℕ) → Aside at m → part (encode_table (placed (decode_table t) k p)) at m ≡ part t at m
   placed-outside at m w = ap (λ (x : List ℕ). part x at m) placed-octets ∙ beside-good at m w ∙ beside-front at m w ∙ beside-record at m w

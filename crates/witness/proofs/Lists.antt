@@ -23,7 +23,7 @@ use Rattle.record.specs.SettingsOctets.{settings_of}
 use Rattle.rules.specs.declared.Frame.{Frame}
 use Rattle.rules.specs.Book.{confirm_frame}
 use Rattle.answers.specs.Answers.{Left}
-use Rattle.agreement.specs.Calls.{an-initialize, an-initiate, a-receive, Handed, Call, initialize, receive, Entry, left, is_done, is_initialize, done, table_after, table_of, stepped, Comes, last, sooner}
+use Rattle.agreement.specs.Calls.{an_initialize, an_initiate, a_receive, Handed, Call, initialize, receive, Entry, left, is_done, is_initialize, done, table_after, table_of, stepped, Comes, last, sooner}
 use Rattle.agreement.specs.Calls as calls-of
 use Rattle.agreement.specs.Story.{Pair, exchanged, Story, nothing_yet, uses_afresh, used_afresh, answered, clears, cleared, story_after, story_of, groups_in, limit_in}
 use Rattle.agreement.specs.Sent.{drawn, expected_of, Among, SendsBy, Sent, SentOver}
@@ -33,14 +33,14 @@ use Rattle.witness.specs.Printers.{own, Printer, settings, commit, filled, value
 -- ---- where a list stands: both tables, and the story that each printer has of the other
 
 pub record At (h : List Entry) (a b : List ℕ) (s z : Story) : Type 0 where
-  pub table-A : table_of h A ≡ a
-  pub table-B : table_of h B ≡ b
-  pub story-A : story_of h A (own B) ≡ s
-  pub story-B : story_of h B (own A) ≡ z
+  pub table_A : table_of h A ≡ a
+  pub table_B : table_of h B ≡ b
+  pub story_A : story_of h A (own B) ≡ s
+  pub story_B : story_of h B (own A) ≡ z
 
 pub at_none : At [] [] [] nothing_yet nothing_yet
 unfolding table_of story_of
-at_none = record { table-A = refl; table-B = refl; story-A = refl; story-B = refl }
+at_none = record { table_A = refl; table_B = refl; story_A = refl; story_B = refl }
 
 -- the table that a call leaves, and what it tells of the address b, by its outcome l from the table t
 abbrev pub leave_by : List ℕ → Call → Left → List ℕ
@@ -66,20 +66,20 @@ pub by-A : {h : List Entry} {a b u : List ℕ} {s z r : Story} {c : Call} {v : L
     → leave_by a c l ≡ u → At (record { side = A; call = c; value = v } ∷ h) u b r z
 unfolding table_of story_of
 by-A {c} w p q e = record {
-  table-A = table-after c w.table-A p ∙ e;
-  table-B = w.table-B;
-  story-A = story-after c (own B) w.table-A w.story-A p ∙ q;
-  story-B = w.story-B;
+  table_A = table-after c w.table_A p ∙ e;
+  table_B = w.table_B;
+  story_A = story-after c (own B) w.table_A w.story_A p ∙ q;
+  story_B = w.story_B;
 }
 
 pub by-B : {h : List Entry} {a b u : List ℕ} {s z r : Story} {c : Call} {v : List ℕ} {l : Left} → At h a b s z → left b c ≡ l → tell_by b c l (own A) z ≡ r
     → leave_by b c l ≡ u → At (record { side = B; call = c; value = v } ∷ h) a u s r
 unfolding table_of story_of
 by-B {c} w p q e = record {
-  table-A = w.table-A;
-  table-B = table-after c w.table-B p ∙ e;
-  story-A = w.story-A;
-  story-B = story-after c (own A) w.table-B w.story-B p ∙ q;
+  table_A = w.table_A;
+  table_B = table-after c w.table_B p ∙ e;
+  story_A = w.story_A;
+  story_B = story-after c (own A) w.table_B w.story_B p ∙ q;
 }
 
 -- ---- a call whose table and outcome are known: what it sends
@@ -261,24 +261,24 @@ sets-to (hears r) X e before size b o s (sooner c) d z q = sets-to r X e before 
 
 -- octets, one by one
 pub data Small : List ℕ → Type 0 where
-  no-octet : Small []
+  no_octet : Small []
   octet : {x : ℕ} {s : List ℕ} → x < 256 → Small s → Small (x ∷ s)
 
 pub bytes_of : {s : List ℕ} → Small s → Bytes s
-bytes_of no-octet i = lit< tt
+bytes_of no_octet i = lit< tt
 bytes_of (octet l r) zero = l
 bytes_of (octet l r) (suc i) = bytes_of r i
 
 small_same : (n k : ℕ) → k < 256 → Small (replicate n k)
-small_same zero k l = no-octet
+small_same zero k l = no_octet
 small_same (suc n) k l = octet l (small_same n k l)
 
 bytes_same : (n k : ℕ) → k < 256 → Bytes (replicate n k)
 bytes_same n k l = bytes_of (small_same n k l)
 
 own-six : (X : Side) → calls-of.Octets 6 (own X)
-own-six A = record { many = refl; bytes = bytes_of (octet (lit< tt) (octet (lit< tt) (octet (lit< tt) (octet (lit< tt) (octet (lit< tt) (octet (lit< tt) no-octet)))))) }
-own-six B = record { many = refl; bytes = bytes_of (octet (lit< tt) (octet (lit< tt) (octet (lit< tt) (octet (lit< tt) (octet (lit< tt) (octet (lit< tt) no-octet)))))) }
+own-six A = record { many = refl; bytes = bytes_of (octet (lit< tt) (octet (lit< tt) (octet (lit< tt) (octet (lit< tt) (octet (lit< tt) (octet (lit< tt) no_octet)))))) }
+own-six B = record { many = refl; bytes = bytes_of (octet (lit< tt) (octet (lit< tt) (octet (lit< tt) (octet (lit< tt) (octet (lit< tt) (octet (lit< tt) no_octet)))))) }
 
 value-handed : (n : ℕ) → n < 256 → calls-of.Octets 32 (value n)
 value-handed n l = record { many = refl; bytes = bytes_same 32 n l }
@@ -308,7 +308,7 @@ commit-bytes group n l = body_bytes 1 0 group (commit group n) (bytes_same (comm
 
 pub refusal-bytes : (group : ℕ) → Bytes (group_refusal_body group)
 unfolding group_refusal_body
-refusal-bytes group = body_bytes 1 77 group [] (bytes_of no-octet)
+refusal-bytes group = body_bytes 1 77 group [] (bytes_of no_octet)
 
 pub confirm-bytes : (counter n : ℕ) → n < 256 → Bytes (confirm_body counter (value n))
 unfolding confirm_body
@@ -316,15 +316,15 @@ confirm-bytes counter n l = body_bytes 2 0 counter (value n) (bytes_same 32 n l)
 
 pub set-up-handed : (P : Printer) → length P.groups < 256 → Bytes P.groups → P.period < 256 → P.limit < 256 → Handed (set_up P)
 set-up-handed P l b p m = record {
-  call = an-initialize (bytes_same (32 + P.size) 0 (lit< tt)) (own-six P.side) (settings-handed P l b p m);
+  call = an_initialize (bytes_same (32 + P.size) 0 (lit< tt)) (own-six P.side) (settings-handed P l b p m);
   value = value-handed 0 (lit< tt);
 }
 
 pub start-handed : (X : Side) (stock : List ℕ) → Bytes stock → Handed (starts X stock)
-start-handed X stock s = record { call = an-initiate (own-six (other X)) (lit< tt) s; value = value-handed 0 (lit< tt) }
+start-handed X stock s = record { call = an_initiate (own-six (other X)) (lit< tt) s; value = value-handed 0 (lit< tt) }
 
 pub frame-handed : (X : Side) (frame stock : List ℕ) (v : ℕ) → Bytes frame → Bytes stock → v < 256 → Handed (gets X frame stock v)
 frame-handed X frame stock v f s l = record {
-  call = a-receive (own-six (other X)) (lit< tt) f s (bytes_same 32 0 (lit< tt)) (lit< tt);
+  call = a_receive (own-six (other X)) (lit< tt) f s (bytes_same 32 0 (lit< tt)) (lit< tt);
   value = value-handed v l;
 }

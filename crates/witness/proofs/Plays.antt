@@ -245,19 +245,19 @@ story-older-accepts = story (used 19 6) (pair 19 6 5) false false (finished (pai
 -- ---- every call of the lists, computed
 
 pub record Plays : Type 0 where
-  pub set-up-A : left [] (set_up (wide A)).call ≡ sets (wide A)
-  pub set-up-B : left [] (set_up (wide B)).call ≡ sets (wide B)
-  pub start-A : left (empty (wide A)) (start A 1).call ≡ after-start-A
-  pub commit-B : left (empty (wide B)) (gets_commit B 1 2 4).call ≡ after-commit-B
-  pub commit-A : left after-start-A.table (gets_commit A 2 3 5).call ≡ after-commit-A
-  pub accept-A : left after-commit-A.table (gets_confirm A 4).call ≡ after-accept-A
-  pub accept-B : left after-commit-B.table (gets_confirm B 5).call ≡ after-accept-B
-  pub start-again : left after-accept-A.table (start A 6).call ≡ after-start-again
-  pub commit-again-B : left after-accept-B.table (gets_commit B 6 7 8).call ≡ after-commit-again-B
-  pub commit-again-A : left after-start-again.table (gets_commit A 7 3 9).call ≡ after-commit-again-A
-  pub accept-again-A : left after-commit-again-A.table (gets_confirm A 8).call ≡ after-accept-again-A
-  pub set-up-newer : left [] (set_up newer).call ≡ sets newer
-  pub set-up-older : left [] (set_up older).call ≡ sets older
+  pub set_up_A : left [] (set_up (wide A)).call ≡ sets (wide A)
+  pub set_up_B : left [] (set_up (wide B)).call ≡ sets (wide B)
+  pub start_A : left (empty (wide A)) (start A 1).call ≡ after-start-A
+  pub commit_B : left (empty (wide B)) (gets_commit B 1 2 4).call ≡ after-commit-B
+  pub commit_A : left after-start-A.table (gets_commit A 2 3 5).call ≡ after-commit-A
+  pub accept_A : left after-commit-A.table (gets_confirm A 4).call ≡ after-accept-A
+  pub accept_B : left after-commit-B.table (gets_confirm B 5).call ≡ after-accept-B
+  pub start_again : left after-accept-A.table (start A 6).call ≡ after-start-again
+  pub commit_again_B : left after-accept-B.table (gets_commit B 6 7 8).call ≡ after-commit-again-B
+  pub commit_again_A : left after-start-again.table (gets_commit A 7 3 9).call ≡ after-commit-again-A
+  pub accept_again_A : left after-commit-again-A.table (gets_confirm A 8).call ≡ after-accept-again-A
+  pub set_up_newer : left [] (set_up newer).call ≡ sets newer
+  pub set_up_older : left [] (set_up older).call ≡ sets older
   pub offers : left (empty newer) offer.call ≡ after-offer
   pub refuses : left (empty older) refusal.call ≡ after-refusal
   pub switches : left after-offer.table switch.call ≡ after-switch
@@ -268,19 +268,19 @@ pub record Plays : Type 0 where
 
 -- the stories; the frames, by the octets that they are sent as; of the commits used afresh, the first octet; the width that a table stores a commit with
 pub record Tells : Type 0 where
-  pub set-up-A : tell_by [] (set_up (wide A)).call (sets (wide A)) (own B) nothing_yet ≡ nothing_yet
-  pub set-up-B : tell_by [] (set_up (wide B)).call (sets (wide B)) (own A) nothing_yet ≡ nothing_yet
-  pub start-A : tell_by (empty (wide A)) (start A 1).call after-start-A (own B) nothing_yet ≡ story-start-A
-  pub commit-B : tell_by (empty (wide B)) (gets_commit B 1 2 4).call after-commit-B (own A) nothing_yet ≡ story-commit-B
-  pub commit-A : tell_by after-start-A.table (gets_commit A 2 3 5).call after-commit-A (own B) story-start-A ≡ story-commit-A
-  pub accept-A : tell_by after-commit-A.table (gets_confirm A 4).call after-accept-A (own B) story-commit-A ≡ story-accept-A
-  pub accept-B : tell_by after-commit-B.table (gets_confirm B 5).call after-accept-B (own A) story-commit-B ≡ story-accept-B
-  pub start-again : tell_by after-accept-A.table (start A 6).call after-start-again (own B) story-accept-A ≡ story-start-again
-  pub commit-again-B : tell_by after-accept-B.table (gets_commit B 6 7 8).call after-commit-again-B (own A) story-accept-B ≡ story-commit-again-B
-  pub commit-again-A : tell_by after-start-again.table (gets_commit A 7 3 9).call after-commit-again-A (own B) story-start-again ≡ story-commit-again-A
-  pub accept-again-A : tell_by after-commit-again-A.table (gets_confirm A 8).call after-accept-again-A (own B) story-commit-again-A ≡ story-accept-again-A
-  pub set-up-newer : tell_by [] (set_up newer).call (sets newer) (own B) nothing_yet ≡ nothing_yet
-  pub set-up-older : tell_by [] (set_up older).call (sets older) (own A) nothing_yet ≡ nothing_yet
+  pub set_up_A : tell_by [] (set_up (wide A)).call (sets (wide A)) (own B) nothing_yet ≡ nothing_yet
+  pub set_up_B : tell_by [] (set_up (wide B)).call (sets (wide B)) (own A) nothing_yet ≡ nothing_yet
+  pub start_A : tell_by (empty (wide A)) (start A 1).call after-start-A (own B) nothing_yet ≡ story-start-A
+  pub commit_B : tell_by (empty (wide B)) (gets_commit B 1 2 4).call after-commit-B (own A) nothing_yet ≡ story-commit-B
+  pub commit_A : tell_by after-start-A.table (gets_commit A 2 3 5).call after-commit-A (own B) story-start-A ≡ story-commit-A
+  pub accept_A : tell_by after-commit-A.table (gets_confirm A 4).call after-accept-A (own B) story-commit-A ≡ story-accept-A
+  pub accept_B : tell_by after-commit-B.table (gets_confirm B 5).call after-accept-B (own A) story-commit-B ≡ story-accept-B
+  pub start_again : tell_by after-accept-A.table (start A 6).call after-start-again (own B) story-accept-A ≡ story-start-again
+  pub commit_again_B : tell_by after-accept-B.table (gets_commit B 6 7 8).call after-commit-again-B (own A) story-accept-B ≡ story-commit-again-B
+  pub commit_again_A : tell_by after-start-again.table (gets_commit A 7 3 9).call after-commit-again-A (own B) story-start-again ≡ story-commit-again-A
+  pub accept_again_A : tell_by after-commit-again-A.table (gets_confirm A 8).call after-accept-again-A (own B) story-commit-again-A ≡ story-accept-again-A
+  pub set_up_newer : tell_by [] (set_up newer).call (sets newer) (own B) nothing_yet ≡ nothing_yet
+  pub set_up_older : tell_by [] (set_up older).call (sets older) (own A) nothing_yet ≡ nothing_yet
   pub offers : tell_by (empty newer) offer.call after-offer (own B) nothing_yet ≡ story-offer
   pub refuses : tell_by (empty older) refusal.call after-refusal (own A) nothing_yet ≡ nothing_yet
   pub switches : tell_by after-offer.table switch.call after-switch (own B) story-offer ≡ story-switch
@@ -288,30 +288,30 @@ pub record Tells : Type 0 where
   pub confirms : tell_by after-switch.table confirm.call after-confirm (own B) story-switch ≡ story-confirm
   pub newer-accepts : tell_by after-confirm.table newer_accepts.call after-newer-accepts (own B) story-confirm ≡ story-newer-accepts
   pub older-accepts : tell_by after-answer.table older_accepts.call after-older-accepts (own A) story-answer ≡ story-older-accepts
-  pub draws-A1 : drawn after-start-A.table (own B) (value 0) [] (commit_frame 21) ≡ Octets (commit_body 21 [] (commit 21 1))
-  pub draws-B2 : drawn after-commit-B.table (own A) (value 4) (value 0) (commit_frame 21) ≡ Octets (commit_body 21 [] (commit 21 2))
-  pub draws-B4 : drawn after-commit-B.table (own A) (value 4) (value 0) (confirm_frame 1) ≡ Octets (confirm_body 1 (value 4))
-  pub draws-A5 : drawn after-commit-A.table (own B) (value 5) (value 0) (confirm_frame 1) ≡ Octets (confirm_body 1 (value 5))
-  pub draws-A6 : drawn after-start-again.table (own B) (value 0) [] (commit_frame 21) ≡ Octets (commit_body 21 [] (commit 21 6))
-  pub draws-B7 : drawn after-commit-again-B.table (own A) (value 8) (value 0) (commit_frame 21) ≡ Octets (commit_body 21 [] (commit 21 7))
-  pub draws-B8 : drawn after-commit-again-B.table (own A) (value 8) (value 0) (confirm_frame 1) ≡ Octets (confirm_body 1 (value 8))
-  pub draws-offer : drawn after-offer.table (own B) (value 0) [] (commit_frame 21) ≡ Octets (commit_body 21 [] (commit 21 1))
-  pub draws-refusal : drawn after-refusal.table (own A) (value 0) (value 0) (group_refusal_frame 21) ≡ Octets (group_refusal_body 21)
-  pub draws-switch : drawn after-switch.table (own B) (value 0) (value 0) (commit_frame 19) ≡ Octets (commit_body 19 [] (commit 19 5))
-  pub draws-answer : drawn after-answer.table (own A) (value 8) (value 0) (commit_frame 19) ≡ Octets (commit_body 19 [] (commit 19 6))
-  pub draws-older-confirm : drawn after-answer.table (own A) (value 8) (value 0) (confirm_frame 1) ≡ Octets (confirm_body 1 (value 8))
-  pub draws-newer-confirm : drawn after-confirm.table (own B) (value 9) (value 0) (confirm_frame 1) ≡ Octets (confirm_body 1 (value 9))
-  pub uses-1 : first_octet (used_afresh (groups_in (empty (wide A))) (start A 1).call after-start-A.answer) ≡ 1
-  pub uses-2 : first_octet (used_afresh (groups_in (empty (wide B))) (gets_commit B 1 2 4).call after-commit-B.answer) ≡ 2
-  pub uses-6 : first_octet (used_afresh (groups_in after-accept-A.table) (start A 6).call after-start-again.answer) ≡ 6
-  pub uses-7 : first_octet (used_afresh (groups_in after-accept-B.table) (gets_commit B 6 7 8).call after-commit-again-B.answer) ≡ 7
-  pub offer-uses : first_octet (used_afresh (groups_in (empty newer)) offer.call after-offer.answer) ≡ 1
-  pub switch-uses : first_octet (used_afresh (groups_in after-offer.table) switch.call after-switch.answer) ≡ 5
-  pub answer-uses : first_octet (used_afresh (groups_in after-refusal.table) answer.call after-answer.answer) ≡ 6
-  pub newer-width : width_of after-newer-accepts.table ≡ 198
-  pub older-width : width_of after-older-accepts.table ≡ 144
-  pub to-A : same_address (own A) (own A) ≡ true
-  pub to-B : same_address (own B) (own B) ≡ true
+  pub draws_A1 : drawn after-start-A.table (own B) (value 0) [] (commit_frame 21) ≡ Octets (commit_body 21 [] (commit 21 1))
+  pub draws_B2 : drawn after-commit-B.table (own A) (value 4) (value 0) (commit_frame 21) ≡ Octets (commit_body 21 [] (commit 21 2))
+  pub draws_B4 : drawn after-commit-B.table (own A) (value 4) (value 0) (confirm_frame 1) ≡ Octets (confirm_body 1 (value 4))
+  pub draws_A5 : drawn after-commit-A.table (own B) (value 5) (value 0) (confirm_frame 1) ≡ Octets (confirm_body 1 (value 5))
+  pub draws_A6 : drawn after-start-again.table (own B) (value 0) [] (commit_frame 21) ≡ Octets (commit_body 21 [] (commit 21 6))
+  pub draws_B7 : drawn after-commit-again-B.table (own A) (value 8) (value 0) (commit_frame 21) ≡ Octets (commit_body 21 [] (commit 21 7))
+  pub draws_B8 : drawn after-commit-again-B.table (own A) (value 8) (value 0) (confirm_frame 1) ≡ Octets (confirm_body 1 (value 8))
+  pub draws_offer : drawn after-offer.table (own B) (value 0) [] (commit_frame 21) ≡ Octets (commit_body 21 [] (commit 21 1))
+  pub draws_refusal : drawn after-refusal.table (own A) (value 0) (value 0) (group_refusal_frame 21) ≡ Octets (group_refusal_body 21)
+  pub draws_switch : drawn after-switch.table (own B) (value 0) (value 0) (commit_frame 19) ≡ Octets (commit_body 19 [] (commit 19 5))
+  pub draws_answer : drawn after-answer.table (own A) (value 8) (value 0) (commit_frame 19) ≡ Octets (commit_body 19 [] (commit 19 6))
+  pub draws_older_confirm : drawn after-answer.table (own A) (value 8) (value 0) (confirm_frame 1) ≡ Octets (confirm_body 1 (value 8))
+  pub draws_newer_confirm : drawn after-confirm.table (own B) (value 9) (value 0) (confirm_frame 1) ≡ Octets (confirm_body 1 (value 9))
+  pub uses_1 : first_octet (used_afresh (groups_in (empty (wide A))) (start A 1).call after-start-A.answer) ≡ 1
+  pub uses_2 : first_octet (used_afresh (groups_in (empty (wide B))) (gets_commit B 1 2 4).call after-commit-B.answer) ≡ 2
+  pub uses_6 : first_octet (used_afresh (groups_in after-accept-A.table) (start A 6).call after-start-again.answer) ≡ 6
+  pub uses_7 : first_octet (used_afresh (groups_in after-accept-B.table) (gets_commit B 6 7 8).call after-commit-again-B.answer) ≡ 7
+  pub offer_uses : first_octet (used_afresh (groups_in (empty newer)) offer.call after-offer.answer) ≡ 1
+  pub switch_uses : first_octet (used_afresh (groups_in after-offer.table) switch.call after-switch.answer) ≡ 5
+  pub answer_uses : first_octet (used_afresh (groups_in after-refusal.table) answer.call after-answer.answer) ≡ 6
+  pub newer_width : width_of after-newer-accepts.table ≡ 198
+  pub older_width : width_of after-older-accepts.table ≡ 144
+  pub to_A : same_address (own A) (own A) ≡ true
+  pub to_B : same_address (own B) (own B) ≡ true
 
 computed : Plays × Tells
 unfolding octets.part octets.put octets.num octets.oct octets.all_zero octets.same octets.same_address octets.zero_address octets.individual
@@ -342,19 +342,19 @@ unfolding octets.part octets.put octets.num octets.oct octets.all_zero octets.sa
     writer.writes_record stories.told stories.cleared
 computed = (
   record {
-    set-up-A = refl;
-    set-up-B = refl;
-    start-A = refl;
-    commit-B = refl;
-    commit-A = refl;
-    accept-A = refl;
-    accept-B = refl;
-    start-again = refl;
-    commit-again-B = refl;
-    commit-again-A = refl;
-    accept-again-A = refl;
-    set-up-newer = refl;
-    set-up-older = refl;
+    set_up_A = refl;
+    set_up_B = refl;
+    start_A = refl;
+    commit_B = refl;
+    commit_A = refl;
+    accept_A = refl;
+    accept_B = refl;
+    start_again = refl;
+    commit_again_B = refl;
+    commit_again_A = refl;
+    accept_again_A = refl;
+    set_up_newer = refl;
+    set_up_older = refl;
     offers = refl;
     refuses = refl;
     switches = refl;
@@ -364,19 +364,19 @@ computed = (
     older-accepts = refl;
   },
   record {
-    set-up-A = refl;
-    set-up-B = refl;
-    start-A = refl;
-    commit-B = refl;
-    commit-A = refl;
-    accept-A = refl;
-    accept-B = refl;
-    start-again = refl;
-    commit-again-B = refl;
-    commit-again-A = refl;
-    accept-again-A = refl;
-    set-up-newer = refl;
-    set-up-older = refl;
+    set_up_A = refl;
+    set_up_B = refl;
+    start_A = refl;
+    commit_B = refl;
+    commit_A = refl;
+    accept_A = refl;
+    accept_B = refl;
+    start_again = refl;
+    commit_again_B = refl;
+    commit_again_A = refl;
+    accept_again_A = refl;
+    set_up_newer = refl;
+    set_up_older = refl;
     offers = refl;
     refuses = refl;
     switches = refl;
@@ -384,30 +384,30 @@ computed = (
     confirms = refl;
     newer-accepts = refl;
     older-accepts = refl;
-    draws-A1 = refl;
-    draws-B2 = refl;
-    draws-B4 = refl;
-    draws-A5 = refl;
-    draws-A6 = refl;
-    draws-B7 = refl;
-    draws-B8 = refl;
-    draws-offer = refl;
-    draws-refusal = refl;
-    draws-switch = refl;
-    draws-answer = refl;
-    draws-older-confirm = refl;
-    draws-newer-confirm = refl;
-    uses-1 = refl;
-    uses-2 = refl;
-    uses-6 = refl;
-    uses-7 = refl;
-    offer-uses = refl;
-    switch-uses = refl;
-    answer-uses = refl;
-    newer-width = refl;
-    older-width = refl;
-    to-A = refl;
-    to-B = refl;
+    draws_A1 = refl;
+    draws_B2 = refl;
+    draws_B4 = refl;
+    draws_A5 = refl;
+    draws_A6 = refl;
+    draws_B7 = refl;
+    draws_B8 = refl;
+    draws_offer = refl;
+    draws_refusal = refl;
+    draws_switch = refl;
+    draws_answer = refl;
+    draws_older_confirm = refl;
+    draws_newer_confirm = refl;
+    uses_1 = refl;
+    uses_2 = refl;
+    uses_6 = refl;
+    uses_7 = refl;
+    offer_uses = refl;
+    switch_uses = refl;
+    answer_uses = refl;
+    newer_width = refl;
+    older_width = refl;
+    to_A = refl;
+    to_B = refl;
   },
 )
 

@@ -19,7 +19,7 @@ use Rattle.frame.specs.declared.Written.TheVariants as written_is
 use Rattle.frame.specs.Writing.{Drawn, Octets, Outside, draw_confirm, draw_commits, draw_confirms, parts_body, written, leaves}
 use Rattle.frame.proofs.Shapes.{if-then, if-else, confirm-shape}
 use Rattle.frame.proofs.RoundTrip.{commit-again, token-request-again, group-refusal-again, confirm-first}
-use Rattle.frame.proofs.RoundTrip.{commit-reads, commit-token-back, commit-back, token-request-reads, token-request-back}
+use Rattle.frame.proofs.RoundTrip.{commit-reads, commit-token-back, commit_back, token-request-reads, token-request-back}
 use Rattle.frame.proofs.RoundTrip.{group-refusal-reads, confirm-reads, confirm-back}
 use Rattle.frame.proofs.Wrote.{CommitParts, commit-parts, TokenRequestParts, token-request-parts, group-refusal-parts, ConfirmParts, confirm-parts}
 use Rattle.frame.proofs.Wrote.{parts-commit-is, parts-request-is, parts-refusal-is, parts-confirm-is}
@@ -84,8 +84,8 @@ module _ (t s : List ℕ) (k : sound t ≡ true) where
   commits-again b =
       record {
         commit = λ g n e. drawn-again _ (commit-in list s g n e) (parts-commit-is list _ _ g ∙ commit-again list s g n b e);
-        token-request = λ g n e. drawn-again _ (request-in list s g n e) (parts-request-is list _ [] g ∙ token-request-again list s g n b e);
-        group-refusal = λ g e. drawn-again _ (refusal-in list s g e) (parts-refusal-is list [] [] g ∙ group-refusal-again list s g b e);
+        token_request = λ g n e. drawn-again _ (request-in list s g n e) (parts-request-is list _ [] g ∙ token-request-again list s g n b e);
+        group_refusal = λ g e. drawn-again _ (refusal-in list s g e) (parts-refusal-is list [] [] g ∙ group-refusal-again list s g b e);
       }
 
   -- of any status 0 Confirm the first 40 octets
@@ -129,25 +129,25 @@ passed {s} {d} b e = if-then b d Outside (Octets s) e (outside-not s)
 
 -- the shapes that are written, each with its octets s
 data Drew (gs s : List ℕ) : Parts → Type 0 where
-  drew-commit : {g : ℕ} {t r : List ℕ} → CommitParts gs g t r s → Drew gs s (made 1 0 g 0 t r)
-  drew-request : {g : ℕ} {t : List ℕ} → TokenRequestParts g t s → Drew gs s (made 1 76 g 0 t [])
-  drew-refusal : {g : ℕ} → s ≡ group_refusal_body g → Drew gs s (made 1 77 g 0 [] [])
-  drew-confirm : {n : ℕ} {r : List ℕ} → ConfirmParts n r s → Drew gs s (made 2 0 0 n [] r)
+  drew_commit : {g : ℕ} {t r : List ℕ} → CommitParts gs g t r s → Drew gs s (made 1 0 g 0 t r)
+  drew_request : {g : ℕ} {t : List ℕ} → TokenRequestParts g t s → Drew gs s (made 1 76 g 0 t [])
+  drew_refusal : {g : ℕ} → s ≡ group_refusal_body g → Drew gs s (made 1 77 g 0 [] [])
+  drew_confirm : {n : ℕ} {r : List ℕ} → ConfirmParts n r s → Drew gs s (made 2 0 0 n [] r)
 
 module _ (gs s : List ℕ) (g : ℕ) (t r : List ℕ) where
   commits-drew : (x : ℕ) → draw_commits gs x g t r ≡ Octets s → Drew gs s (made 1 x g 0 t r)
   unfolding draw_commits
   commits-drew x e = elim (either (eqb x 0) e) [
-    | inl z ↦ rw (eqb-true x 0 z.0) (drew-commit (commit-parts gs g t r s z.1))
+    | inl z ↦ rw (eqb-true x 0 z.0) (drew_commit (commit-parts gs g t r s z.1))
     | inr y ↦ elim (either (eqb x 76) y.1) [
       | inl z ↦
           let a = passed (eqb (length r) 0) z.1 in
-          rw (eqb-true x 76 z.0, empty r (eqb-true _ _ a.0)) (drew-request (token-request-parts g t s a.1))
+          rw (eqb-true x 76 z.0, empty r (eqb-true _ _ a.0)) (drew_request (token-request-parts g t s a.1))
       | inr z ↦
           let a = passed (eqb x 77) z.1 in
           let b = passed (eqb (length t) 0) a.1 in
           let c = passed (eqb (length r) 0) b.1 in
-          rw (eqb-true x 77 a.0, empty t (eqb-true _ _ b.0), empty r (eqb-true _ _ c.0)) (drew-refusal (group-refusal-parts g s c.1))
+          rw (eqb-true x 77 a.0, empty t (eqb-true _ _ b.0), empty r (eqb-true _ _ c.0)) (drew_refusal (group-refusal-parts g s c.1))
     ]
   ]
 
@@ -157,7 +157,7 @@ module _ (gs s : List ℕ) (g : ℕ) (t r : List ℕ) where
       let a = passed (eqb x 0) e in
       let b = passed (eqb g 0) a.1 in
       let c = passed (eqb (length t) 0) b.1 in
-      rw (eqb-true x 0 a.0, eqb-true g 0 b.0, empty t (eqb-true _ _ c.0)) (drew-confirm (confirm-parts n r s c.1))
+      rw (eqb-true x 0 a.0, eqb-true g 0 b.0, empty t (eqb-true _ _ c.0)) (drew_confirm (confirm-parts n r s c.1))
 
   parts-drew : (q x n : ℕ) → parts_body gs q x g n t r ≡ Octets s → Drew gs s (made q x g n t r)
   unfolding parts_body
@@ -169,30 +169,30 @@ module _ (gs s : List ℕ) (g : ℕ) (t r : List ℕ) where
 -- ---- what is written reads back
 
 drew-back : (gs hs s : List ℕ) (p : Parts) → p.group < 65536 → p.counter < 65536 → Drew gs s p → Supports hs p → parts_in hs s ≡ p
-drew-back gs hs s p gb nb (drew-commit {g} {t} {r} w) l =
+drew-back gs hs s p gb nb (drew_commit {g} {t} {r} w) l =
     subst (λ (x : List ℕ). parts_in hs x ≡ p) (sym w.octets)
     (commit-in hs (commit_body g t r) g (length t) (commit-reads hs g t r (l refl refl) gb w.token w.commit)
-    ∙ rw (commit-token-back g t r, commit-back g t r w.commit))
-drew-back gs hs s p gb nb (drew-request {g} {t} w) l =
+    ∙ rw (commit-token-back g t r, commit_back g t r w.commit))
+drew-back gs hs s p gb nb (drew_request {g} {t} w) l =
     subst (λ (x : List ℕ). parts_in hs x ≡ p) (sym w.octets)
     (request-in hs (token_request_body g t) g (length t) (token-request-reads hs g t gb w.some w.token) ∙ rw (token-request-back g t))
-drew-back gs hs s p gb nb (drew-refusal {g} e) l =
+drew-back gs hs s p gb nb (drew_refusal {g} e) l =
     subst (λ (x : List ℕ). parts_in hs x ≡ p) (sym e) (refusal-in hs (group_refusal_body g) g (group-refusal-reads hs g gb))
-drew-back gs hs s p gb nb (drew-confirm {n} {r} w) l =
+drew-back gs hs s p gb nb (drew_confirm {n} {r} w) l =
     subst (λ (x : List ℕ). parts_in hs x ≡ p) (sym w.octets)
     (confirm-in hs (confirm_body n r) n (confirm-reads hs n r nb w.value) ∙ rw (confirm-back n r w.value))
 
 drew-supports : (gs s : List ℕ) (p : Parts) → Drew gs s p → Supports gs p
-drew-supports gs s p (drew-commit w) a b = w.supported
-drew-supports gs s p (drew-request w) a b = absurd (omega arith)
-drew-supports gs s p (drew-refusal e) a b = absurd (omega arith)
-drew-supports gs s p (drew-confirm w) a b = absurd (omega arith)
+drew-supports gs s p (drew_commit w) a b = w.supported
+drew-supports gs s p (drew_request w) a b = absurd (omega arith)
+drew-supports gs s p (drew_refusal e) a b = absurd (omega arith)
+drew-supports gs s p (drew_confirm w) a b = absurd (omega arith)
 
 drew-numbers : (gs s : List ℕ) (p : Parts) → p.group < 65536 → p.counter < 65536 → Drew gs s p → Numbers p
-drew-numbers gs s p gb nb (drew-commit w) = record { sequence = inl refl; status = lit< tt; group = gb; counter = nb }
-drew-numbers gs s p gb nb (drew-request w) = record { sequence = inl refl; status = lit< tt; group = gb; counter = nb }
-drew-numbers gs s p gb nb (drew-refusal e) = record { sequence = inl refl; status = lit< tt; group = gb; counter = nb }
-drew-numbers gs s p gb nb (drew-confirm w) = record { sequence = inr refl; status = lit< tt; group = gb; counter = nb }
+drew-numbers gs s p gb nb (drew_commit w) = record { sequence = inl refl; status = lit< tt; group = gb; counter = nb }
+drew-numbers gs s p gb nb (drew_request w) = record { sequence = inl refl; status = lit< tt; group = gb; counter = nb }
+drew-numbers gs s p gb nb (drew_refusal e) = record { sequence = inl refl; status = lit< tt; group = gb; counter = nb }
+drew-numbers gs s p gb nb (drew_confirm w) = record { sequence = inr refl; status = lit< tt; group = gb; counter = nb }
 
 -- what was drawn stands in the buffer
 drawn-wrote : (d : Drawn) (out : List ℕ) (m : ℕ) → (draws d out).answer ≡ wrote.Length m → frame-wrote.Wrote d out (draws d out).out m
@@ -241,11 +241,11 @@ record-drew gs p q value s = go (q is 1) (p.run.state is 2)
         else Outside) ≡ Octets s → Drew gs s (if b then commit_parts p else made 2 0 0 (if c then p.run.sc else 65535) [] value)
     go true c e =
         let a = if-else (p.run.state is 0) Outside _ (Octets s) e (outside-not s) in
-        drew-commit (commit-parts gs p.run.group _ _ s a.1)
-    go false true e = drew-confirm (confirm-parts p.run.sc value s (passed (q is 2) e).1)
+        drew_commit (commit-parts gs p.run.group _ _ s a.1)
+    go false true e = drew_confirm (confirm-parts p.run.sc value s (passed (q is 2) e).1)
     go false false e =
         let a = if-else (p.run.state isnt 0) Outside _ (Octets s) (passed (q is 2) e).1 (outside-not s) in
-        drew-confirm (confirm-parts 65535 value s (passed (p.link.finished isnt 0) a.1).1)
+        drew_confirm (confirm-parts 65535 value s (passed (p.link.finished isnt 0) a.1).1)
 
 module _ (p : Peer) (q : ℕ) (value : List ℕ) where
   record-group : p.run.group < 65536 → (record_parts p q value).group < 65536

@@ -19,7 +19,7 @@ use Rattle.frame.specs.Frame.{read_body, token_of, commit_of, value_of, commit_b
 use Rattle.frame.specs.declared.Body.TheVariants as body_is
 use Rattle.frame.specs.Writing.{Drawn, Octets, Outside, draw_commit, draw_confirm, parts_body, written, leaves}
 use Rattle.frame.proofs.Laws.{length-body}
-use Rattle.frame.proofs.RoundTrip.{commit-reads, commit-token-back, commit-back, confirm-reads, confirm-back}
+use Rattle.frame.proofs.RoundTrip.{commit-reads, commit-token-back, commit_back, confirm-reads, confirm-back}
 use Rattle.record.specs.declared.Peer.{Peer}
 use Rattle.record.specs.Layout.{record_at, groups_of}
 use Rattle.record.proofs.Laws.{FitPeer}
@@ -197,7 +197,7 @@ module _ (t a : List ℕ) (k : ℕ) (e : entry t a ≡ At k) where
     token_back = ap (token_of (commit_body here.run.group token own)) (sym token-length) ∙ commit-token-back here.run.group token own
 
     pub own_back : commit_of (commit_body here.run.group token own) here.run.group here.run.toklen ≡ own
-    own_back = ap (commit_of (commit_body here.run.group token own) here.run.group) (sym token-length) ∙ commit-back here.run.group token own own-length
+    own_back = ap (commit_of (commit_body here.run.group token own) here.run.group) (sym token-length) ∙ commit_back here.run.group token own own-length
 
   -- "or the Confirm, whose counter is Sc for a run in Confirmed and 65,535 for a link with no run"
   module _ (value : List ℕ) (v : length value ≡ 32) where
@@ -228,8 +228,8 @@ module _ (t a : List ℕ) (k : ℕ) (e : entry t a ≡ At k) where
     pub confirm-reads-back : (hs : List ℕ) (n : ℕ) → n < 65536 → read_body hs (confirm_body n value) ≡ body_is.Confirm n
     confirm-reads-back hs n h = confirm-reads hs n value h v
 
-    pub value-back : (n : ℕ) → value_of (confirm_body n value) ≡ value
-    value-back n = confirm-back n value v
+    pub value_back : (n : ℕ) → value_of (confirm_body n value) ≡ value
+    value_back n = confirm-back n value v
 
   -- a Committed run has no Confirm, with a link beside it or without
   pub committed-no-confirm : (value out : List ℕ) → here.run.state ≡ 1 → writes_record t a 2 value out ≡ refuse_out out why.Body

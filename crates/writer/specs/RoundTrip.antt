@@ -63,8 +63,8 @@ pub record Again (t s : List ℕ) : Type 0 where
 -- of every body: a supported Commit; also a 76 and a 77
 pub record CommitAgain (t s : List ℕ) : Type 0 where
   pub commit : (g n : ℕ) → read_body (groups_in t) s ≡ body.Commit g n → Again t s
-  pub token-request : (g n : ℕ) → read_body (groups_in t) s ≡ body.TokenRequest g n → Again t s
-  pub group-refusal : (g : ℕ) → read_body (groups_in t) s ≡ body.GroupRefusal g → Again t s
+  pub token_request : (g n : ℕ) → read_body (groups_in t) s ≡ body.TokenRequest g n → Again t s
+  pub group_refusal : (g : ℕ) → read_body (groups_in t) s ≡ body.GroupRefusal g → Again t s
 
 -- a status 0 Confirm: "The writer still writes 40, so only a 40-octet Confirm is rewritten identically"
 pub record ConfirmAgain (t s : List ℕ) : Type 0 where
