@@ -1,6 +1,4 @@
 use borrow.Author.Rules.{rules}
-use Prim.Native.Nat.{◌≤◌, ◌-◌}
-use lib.ListN.{length}
 use Rattle.vectors.proofs.end.Goals as goal
 
 pub loop-i-init : goal.loop-i-init

@@ -1,8 +1,5 @@
 use borrow.Author.Rules.{rules}
 use native.Mathlib.Omega.{arith}
-use mathlib.Core.Path.{◌≡◌}
-use Prim.Native.Nat.{◌≤◌, ◌*◌, ◌-◌}
-use lib.ListN.{length}
 use Rattle.vectors.proofs.unhex.Goals as goal
 
 pub loop-i-init : goal.loop-i-init
