@@ -18,7 +18,7 @@ fn main() {
         println!("cargo:rustc-link-search=native={}", folder.display());
         println!("cargo:rustc-link-lib=static=sae");
     } else if env::var_os("CARGO_FEATURE_ARCHIVE").is_some() {
-        eprintln!("no {}: `rt staticlib sae` makes it", archive.display());
+        eprintln!("no {}: `tools/archive` makes it", archive.display());
         process::exit(1);
     }
 }

@@ -1,5 +1,5 @@
 -- A DROPPED FRAME CHANGES NOTHING: in every place where the rules drop a frame, the frame call leaves the table as it was lent, octet for octet.
-use mathlib.Core.Path.{◌≡◌, refl, sym, ap, ◌∙◌, subst}
+use mathlib.Core.Path.{◌≡◌, refl, sym, ap, ◌∙◌}
 use mathlib.Core.Bool.{Bool, true, false}
 use mathlib.Core.List.{List}
 use Prim.Native.Nat.{ℕ}
@@ -9,24 +9,24 @@ use Rattle.std.specs.Prelude.{if◌then◌else◌}
 use Rattle.octets.specs.declared.Found.{Found}
 use Rattle.octets.specs.declared.Found.TheVariants as found
 use Rattle.record.specs.declared.Peer.{Peer}
-use Rattle.table.specs.Table.{decode_table, encode_table, placed, slot, free_slot, look_by, look, sound, entry}
+use Rattle.table.specs.Table.{decode_table, encode_table, placed, slot, free_slot, look_by, sound, entry}
 use Rattle.table.proofs.Kept.{placed-again}
 use Rattle.rules.specs.declared.Act.TheVariants.{Drop}
-use Rattle.rules.specs.declared.Frames.TheVariants.{None}
 use Rattle.rules.specs.Book.{Step, answering}
-use Rattle.rules.proofs.Drops.{drop_named, named-drop, drop-unchanged}
+use Rattle.rules.proofs.Drops.{drop_named, named-drop}
 use Rattle.answers.specs.declared.Refusal.TheVariants as why
 use Rattle.answers.specs.declared.Turn.{Turn}
 use Rattle.answers.specs.declared.Turn.TheVariants.{Refused, Go}
 use Rattle.answers.specs.Answers.{ends, seating, finish_at, finishes, turned, refuse, refused, said, quiet}
-use Rattle.answers.proofs.Laws.{Entered, free-record, unchanged-ends}
+use Rattle.answers.proofs.Laws.{free-record, unchanged-ends}
 use Rattle.calls.specs.Calls.{frame_turn, frame_step, receives}
 use Rattle.call_laws.specs.Causes.{frame_names}
 use Rattle.call_laws.specs.Isolation.{PeerCall, after}
 use Rattle.call_laws.specs.Drops.{FrameDrops, Unchanged, AllDrop, no_more, one_more}
 use Rattle.call_laws.proofs.Good.{entered-sound, frame-entered}
-use Rattle.call_laws.proofs.Ends.{finish-answer, entered-finds}
+use Rattle.call_laws.proofs.Ends.{finish-answer}
 use Rattle.call_laws.proofs.Refuses.{Iff}
+use Rattle.call_laws.proofs.DropStep.{drop-step}
 
 -- a step that leaves the record as it was found leaves every octet: it is stored in its slot again, or the free record in a free slot, or nowhere
 module _ (t a : List ℕ) (b : Bytes t) (w : sound t ≡ true) (s : Step) where
@@ -54,20 +54,13 @@ module _ (t a : List ℕ) (time : ℕ) (frame fresh expected : List ℕ) (verdic
   dropped-exactly = record { to = drop_named _ _ _ _; from = named-drop _ _ _ _ }
 
   module _ (b : Bytes t) (d : FrameDrops t a time frame fresh expected verdict) where
-    -- the call's step: the record as it was found, and nothing said
-    drop-step : (f : Found) → Entered t a f → frame_step (decode_table t) f a time frame fresh expected verdict ≡ answering (look_by (decode_table t) f) None
-    unfolding frame_step look
-    drop-step f e =
-        subst (λ (g : Found). frame_step (decode_table t) g a time frame fresh expected verdict ≡ answering (look_by (decode_table t) g) None) (entered-finds t a f e)
-        (drop-unchanged _ _ _ _ d)
-
     turn-unchanged : (w : Turn) → frame_turn (entry t a) t frame fresh expected verdict ≡ w
         → Unchanged t a (turned w (λ f. frame_step (decode_table t) f a time frame fresh expected verdict) t a)
     unfolding turned refused answering said quiet
     turn-unchanged (Refused c) e = record { table = refl; answer = λ q. let z : ◌≡◌ {A = ℕ} 0 1 = cc in absurd (omega arith) }
     turn-unchanged (Go f) e =
         let E = (frame-entered t a frame fresh expected verdict (entry t a) f refl e).0 in
-        let q = drop-step f E in
+        let q = drop-step t a time frame fresh expected verdict b d f E in
         record {
           table = same-finish t a b (entered-sound t a f E) _ f (ap (λ (s : Step). s.peer) q);
           answer = λ z. finish-answer t f _ a ∙ ap (λ (s : Step). if s.refused then refused why.Full else said s a) q;

@@ -7,6 +7,7 @@ pub mod Sound
 pub mod Isolated
 pub mod Isolation
 pub mod Sends
+pub mod DropStep
 pub mod Drops
 pub mod Deadlines
 pub mod Elements
