@@ -1,5 +1,5 @@
-// The C interface: what firmware links. Thin over engine, table, good_links, writer, lookups, moves, message and frame. Every function returns 0 or the number of a refusal, and on a
-// refusal leaves every lent octet, the answer and the number asked for too.
+// The C interface, as a library; firmware links the exports of crate sae_c. Thin over engine, table, good_links, writer, lookups, moves, message and frame. Every function returns 0 or
+// the number of a refusal, and on a refusal leaves every lent octet, the answer and the number asked for too.
 #![tactic(auto)]
 
 ghost use Rattle.std.specs.Prelude.{◌≡◌, ◌≤◌, length};
