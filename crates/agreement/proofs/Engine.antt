@@ -11,10 +11,8 @@ use lib.Dec.{eqb, ltb}
 use lib.ListN.{length, get_or}
 use lib.Seq.{length-take-le}
 use borrow.Author.Tests.{eqb-true, not-false}
-use Rattle.std.specs.Prelude.{if◌then◌else◌}
+use Rattle.std.specs.Prelude.{if◌then◌else◌, Option, Some, None, Result, Ok, Err}
 use Rattle.octets.specs.Octets.{Bytes, part, num, same_address}
-use Rattle.octets.specs.declared.Found.{Found}
-use Rattle.octets.specs.declared.Found.TheVariants as found
 use Rattle.octets.proofs.Scan.{clash}
 use Rattle.octets.proofs.Laws.{get-law, get8-law}
 use Rattle.groups.specs.Groups.{commits_of, fresh_of, fresh_ok, fresh_at}
@@ -32,9 +30,7 @@ use Rattle.record.specs.SettingsOctets.{settings_of, reserved_zero}
 use Rattle.record.proofs.Laws.{Served, form-width}
 use Rattle.soundness.proofs.Laws.{header-groups, header-width, header-count}
 use Rattle.table.specs.Table.{Table, decode_table, encode_table, recounted, slot, finds, look, look_by, sound, entry}
-use Rattle.table.specs.declared.Entry.{Entry}
-use Rattle.table.specs.declared.Entry.TheVariants as entry-is
-use Rattle.table.proofs.Laws.{entry_at, entry_absent, sound-header}
+use Rattle.table.proofs.Laws.{entry-found, sound-header}
 use Rattle.initial.specs.Initial.{initial_ok, slots_for, initial_header, initial_table, initial}
 use Rattle.initial.proofs.Initial.{FitSettings, initial-slot, initial-served, initial-decoded, initial-sound, bytes-initial}
 use Rattle.good_links.specs.GoodLinks.{fills}
@@ -42,14 +38,11 @@ use Rattle.good_links.proofs.GoodLinks.{fills-sound}
 use Rattle.rules.specs.declared.Frames.TheVariants as frames
 use Rattle.rules.specs.Book.{◌is◌, has_run, Step, silence}
 use Rattle.message.specs.View.{view, view_of, message, message_of, commit_in}
-use Rattle.answers.specs.declared.Refusal.{Refusal}
-use Rattle.answers.specs.declared.Refusal.TheVariants as why
-use Rattle.answers.specs.declared.Turn.{Turn}
-use Rattle.answers.specs.declared.Turn.TheVariants.{Refused, Go}
-use Rattle.answers.specs.declared.Answer.{Answer}
-use Rattle.answers.specs.declared.Outcome.{Outcome}
-use Rattle.answers.specs.declared.Outcome.TheVariants as outcome
-use Rattle.answers.specs.Answers.{Left, ends, turned, finishes, refuse, refused, quiet, none_due, said}
+use Rattle.causes.specs.declared.Refusal.{Refusal}
+use Rattle.causes.specs.declared.Refusal.TheVariants as why
+use Rattle.answers.specs.Outcome.{Outcome}
+use Rattle.answers.specs.Outcome as outcome
+use Rattle.answers.specs.Answers.{Told, Left, ends, turned, finishes, refuse, refused, quiet, none_due, said}
 use Rattle.answers.proofs.Laws.{Entered, old, new, unchanged-ends}
 use Rattle.answers.proofs.Theorems.{Good}
 use Rattle.answers.proofs.Ending.{Finished, Turned, turn-ends, finish-ends}
@@ -68,74 +61,74 @@ use Rattle.agreement.proofs.Stock.{sound-listing, same-stock, stocked}
 -- ---- what the engine's proofs give: each call's step leaves a record of the right form
 
 pub record Lawful : Type 0 where
-  pub initiate_good : (t a : List ℕ) (time : ℕ) (fresh : List ℕ) (f : Found) → Bytes t → length a ≡ 6 → Bytes a → time < 2 ^ 32 → Bytes fresh
-      → start_turn (entry t a) t fresh ≡ Go f → Good t a f (start_step (decode_table t) f a time fresh)
-  pub kill_good : (t a : List ℕ) (f : Found) → Bytes t → length a ≡ 6 → Bytes a → kill_turn (entry t a) ≡ Go f → Good t a f kill_step
-  pub receive_good : (t a : List ℕ) (time : ℕ) (frame fresh expected : List ℕ) (verdict : ℕ) (f : Found) → Bytes t → length a ≡ 6 → Bytes a → time < 2 ^ 32
+  pub initiate_good : (t a : List ℕ) (time : ℕ) (fresh : List ℕ) (f : Option ℕ) → Bytes t → length a ≡ 6 → Bytes a → time < 2 ^ 32 → Bytes fresh
+      → start_turn (entry t a) t fresh ≡ Ok f → Good t a f (start_step (decode_table t) f a time fresh)
+  pub kill_good : (t a : List ℕ) (f : Option ℕ) → Bytes t → length a ≡ 6 → Bytes a → kill_turn (entry t a) ≡ Ok f → Good t a f kill_step
+  pub receive_good : (t a : List ℕ) (time : ℕ) (frame fresh expected : List ℕ) (verdict : ℕ) (f : Option ℕ) → Bytes t → length a ≡ 6 → Bytes a → time < 2 ^ 32
       → Bytes frame → Bytes fresh → Bytes expected → verdict < 2 ^ 8
-      → frame_turn (entry t a) t frame fresh expected verdict ≡ Go f → Good t a f (frame_step (decode_table t) f a time frame fresh expected verdict)
-  pub expire_good : (t : List ℕ) (time k : ℕ) → Bytes t → time < 2 ^ 32 → sound t ≡ true → due_slot (decode_table t) time ≡ found.At k
-      → Good t (slot (decode_table t) k).address (found.At k) (clock_step (decode_table t) k time)
-  pub expire_address : (t : List ℕ) (time k : ℕ) → Bytes t → sound t ≡ true → due_slot (decode_table t) time ≡ found.At k
+      → frame_turn (entry t a) t frame fresh expected verdict ≡ Ok f → Good t a f (frame_step (decode_table t) f a time frame fresh expected verdict)
+  pub expire_good : (t : List ℕ) (time k : ℕ) → Bytes t → time < 2 ^ 32 → sound t ≡ true → due_slot (decode_table t) time ≡ Some k
+      → Good t (slot (decode_table t) k).address (Some k) (clock_step (decode_table t) k time)
+  pub expire_address : (t : List ℕ) (time k : ℕ) → Bytes t → sound t ≡ true → due_slot (decode_table t) time ≡ Some k
       → (length (slot (decode_table t) k).address ≡ 6) × Bytes (slot (decode_table t) k).address
 
 -- ---- who goes on
 
-go_same : {f g : Found} → Go f ≡ Go g → f ≡ g
+go_same : {f g : Option ℕ} → Ok f ≡ Ok g → f ≡ g
 go_same e = cc
 
-clashed : {c : Refusal} {f : Found} {X : Type 0} → Refused c ≡ Go f → X
+clashed : {c : Refusal} {f : Option ℕ} {X : Type 0} → Err c ≡ Ok f → X
 clashed e = let z : ◌≡◌ {A = ℕ} 0 1 = cc in absurd (omega arith)
 
 -- a refusal's branch was not taken
-past : (b : Bool) (c : Refusal) (x : Turn) (f : Found) → (if b then Refused c else x) ≡ Go f → (b ≡ false) × (x ≡ Go f)
+past : (b : Bool) (c : Refusal) (x : Result (Option ℕ) Refusal) (f : Option ℕ) → (if b then Err c else x) ≡ Ok f → (b ≡ false) × (x ≡ Ok f)
 past true c x f e = clashed e
 past false c x f e = (refl, e)
 
-admit-start : (T : Table) (g : Found) (fresh : List ℕ) (f : Found) → admit_start T g fresh ≡ Go f
+admit-start : (T : Table) (g : Option ℕ) (fresh : List ℕ) (f : Option ℕ) → admit_start T g fresh ≡ Ok f
     → (fresh_ok (width_in T.header) (groups_of T.header) fresh ≡ true) × ((eqb (look_by T f).run.state 0 ≡ true))
 unfolding admit_start
 admit-start T g fresh f e =
-    let a = past (not (fresh_ok (width_in T.header) (groups_of T.header) fresh)) why.Fresh (if has_run (look_by T g) then Refused why.Running else Go g) f e in
-    let b = past (has_run (look_by T g)) why.Running (Go g) f a.1 in
-    (not-false _ a.0, subst (λ (x : Found). eqb (look_by T x).run.state 0 ≡ true) (go_same b.1) (not-false _ b.0))
+    let a = past (not (fresh_ok (width_in T.header) (groups_of T.header) fresh)) why.Fresh (if has_run (look_by T g) then Err why.Running else Ok g) f e in
+    let b = past (has_run (look_by T g)) why.Running (Ok g) f a.1 in
+    (not-false _ a.0, subst (λ (x : Option ℕ). eqb (look_by T x).run.state 0 ≡ true) (go_same b.1) (not-false _ b.0))
 
-start-admits : (E : Entry) (t fresh : List ℕ) (f : Found) → start_turn E t fresh ≡ Go f
+start-admits : (E : Result (Option ℕ) Refusal) (t fresh : List ℕ) (f : Option ℕ) → start_turn E t fresh ≡ Ok f
     → (fresh_ok (width_in (decode_table t).header) (groups_in t) fresh ≡ true) × (eqb (look_by (decode_table t) f).run.state 0 ≡ true)
 unfolding start_turn
-start-admits entry-is.Unsound t fresh f e = clashed e
-start-admits entry-is.Unusable t fresh f e = clashed e
-start-admits entry-is.Absent t fresh f e = admit-start (decode_table t) found.Nothing fresh f e
-start-admits (entry-is.At k) t fresh f e = admit-start (decode_table t) (found.At k) fresh f e
+start-admits (Err why.Unsound) t fresh f e = clashed e
+start-admits (Err why.Address) t fresh f e = clashed e
+start-admits (Ok None) t fresh f e = admit-start (decode_table t) None fresh f e
+start-admits (Ok (Some k)) t fresh f e = admit-start (decode_table t) (Some k) fresh f e
 
-admit-frame : (b x y z : Bool) (g f : Found)
-    → (if not b then Refused why.Fresh else if x then Refused why.Token else if y then Refused why.Verdict else if z then Refused why.Body else Go g) ≡ Go f
+admit-frame : (b x y z : Bool) (g f : Option ℕ)
+    → (if not b then Err why.Fresh else if x then Err why.Token else if y then Err why.Verdict else if z then Err why.Body else Ok g) ≡ Ok f
     → (b ≡ true) × (z ≡ false)
 admit-frame b x y z g f e =
-    let p = past (not b) why.Fresh (if x then Refused why.Token else if y then Refused why.Verdict else if z then Refused why.Body else Go g) f e in
-    let q = past x why.Token (if y then Refused why.Verdict else if z then Refused why.Body else Go g) f p.1 in
-    let r = past y why.Verdict (if z then Refused why.Body else Go g) f q.1 in
-    (not-false b p.0, (past z why.Body (Go g) f r.1).0)
+    let p = past (not b) why.Fresh (if x then Err why.Token else if y then Err why.Verdict else if z then Err why.Body else Ok g) f e in
+    let q = past x why.Token (if y then Err why.Verdict else if z then Err why.Body else Ok g) f p.1 in
+    let r = past y why.Verdict (if z then Err why.Body else Ok g) f q.1 in
+    (not-false b p.0, (past z why.Body (Ok g) f r.1).0)
 
-frame-admits : (E : Entry) (t frame fresh expected : List ℕ) (verdict : ℕ) (f : Found) → frame_turn E t frame fresh expected verdict ≡ Go f
+frame-admits : (E : Result (Option ℕ) Refusal) (t frame fresh expected : List ℕ) (verdict : ℕ) (f : Option ℕ) → frame_turn E t frame fresh expected verdict ≡ Ok f
     → (fresh_ok (width_in (decode_table t).header) (groups_in t) fresh ≡ true) × (eqb (view (groups_in t) frame).sequence 0 ≡ false)
 unfolding frame_turn admit_frame
-frame-admits entry-is.Unsound t frame fresh expected verdict f e = clashed e
-frame-admits entry-is.Unusable t frame fresh expected verdict f e = clashed e
-frame-admits entry-is.Absent t frame fresh expected verdict f e =
-    admit-frame (fresh_ok (width_in (decode_table t).header) (groups_in t) fresh) (not (eqb (length expected) 32)) (ltb 1 verdict) ((view (groups_in t) frame).sequence is 0) found.Nothing f e
-frame-admits (entry-is.At k) t frame fresh expected verdict f e =
-    admit-frame (fresh_ok (width_in (decode_table t).header) (groups_in t) fresh) (not (eqb (length expected) 32)) (ltb 1 verdict) ((view (groups_in t) frame).sequence is 0) (found.At k) f e
+frame-admits (Err why.Unsound) t frame fresh expected verdict f e = clashed e
+frame-admits (Err why.Address) t frame fresh expected verdict f e = clashed e
+frame-admits (Ok None) t frame fresh expected verdict f e =
+    admit-frame (fresh_ok (width_in (decode_table t).header) (groups_in t) fresh) (not (eqb (length expected) 32)) (ltb 1 verdict) ((view (groups_in t) frame).sequence is 0) None f e
+frame-admits (Ok (Some k)) t frame fresh expected verdict f e =
+    admit-frame (fresh_ok (width_in (decode_table t).header) (groups_in t) fresh) (not (eqb (length expected) 32)) (ltb 1 verdict) ((view (groups_in t) frame).sequence is 0) (Some k) f e
 
 -- the record that a call found is its address's
-entered-look : (t a : List ℕ) (f : Found) → Entered t a f → look_by (decode_table t) f ≡ look (decode_table t) a
+entered-look : (t a : List ℕ) (f : Option ℕ) → Entered t a f → look_by (decode_table t) f ≡ look (decode_table t) a
 unfolding look
-entered-look t a f (old {k} e) = ap (look_by (decode_table t)) (sym (entry_at t a k e).1.1)
-entered-look t a f (new e) = ap (look_by (decode_table t)) (sym (entry_absent t a e).1.1)
+entered-look t a f (old {k} e) = ap (look_by (decode_table t)) (sym (entry-found t a (Some k) e).1.1)
+entered-look t a f (new e) = ap (look_by (decode_table t)) (sym (entry-found t a None e).1.1)
 
-entered-sound : (t a : List ℕ) (f : Found) → Entered t a f → sound t ≡ true
-entered-sound t a f (old {k} e) = (entry_at t a k e).0
-entered-sound t a f (new e) = (entry_absent t a e).0
+entered-sound : (t a : List ℕ) (f : Option ℕ) → Entered t a f → sound t ≡ true
+entered-sound t a f (old {k} e) = (entry-found t a (Some k) e).0
+entered-sound t a f (new e) = (entry-found t a None e).0
 
 -- ---- the rules at work
 
@@ -160,7 +153,7 @@ module _ (t : List ℕ) (s : sound t ≡ true) where
     table-stock : fresh_in head (stock_of c) ≡ stock_in (groups_in t) c
     table-stock = let l = sound-listing t s in sym (same-stock (width_in head) (groups_in t) (stock_of c) width_low (form-width _) first-listed l.known l.once w c refl)
 
-start-kind : (t a : List ℕ) (time : ℕ) (fresh : List ℕ) (f : Found) → sound t ≡ true → start_turn (entry t a) t fresh ≡ Go f
+start-kind : (t a : List ℕ) (time : ℕ) (fresh : List ℕ) (f : Option ℕ) → sound t ≡ true → start_turn (entry t a) t fresh ≡ Ok f
     → (start_step (decode_table t) f a time fresh).refused ≡ false
     → Does (groups_in t) (limit_in t) (initiate a time fresh) (look_by (decode_table t) f) (start_step (decode_table t) f a time fresh)
 unfolding start_step
@@ -174,35 +167,35 @@ module _ (gs a : List ℕ) (time : ℕ) (frame fresh expected : List ℕ) (verdi
   abbrev frame_call : Call
   frame_call = receive a time frame fresh expected verdict
 
-  is-verified : (n : ℕ) → read_body gs frame ≡ body.Confirm n → (verdict is 1) ≡ true → Verified gs frame_call
+  is-verified : (n : ℕ) → read_body gs frame ≡ Some (body.Confirm n) → (verdict is 1) ≡ true → Verified gs frame_call
   is-verified n e v = subst (λ (x : ℕ). Verified gs (receive a time frame fresh expected x)) (sym (eqb-true _ _ v)) (verified e)
 
   -- what a well-formed frame is to the rules
-  heard-by : (b : Body) → read_body gs frame ≡ b → eqb (view_of b).sequence 0 ≡ false → Heard gs frame_call (message_of frame (view_of b)) (verdict is 1)
+  heard-by : (b : Option Body) → read_body gs frame ≡ b → eqb (view_of b).sequence 0 ≡ false → Heard gs frame_call (message_of frame (view_of b)) (verdict is 1)
   unfolding commit_in view
-  heard-by (body.Commit g n) e w = record {
+  heard-by (Some (body.Commit g n)) e w = record {
     commit = λ z l. (record { token = n; frame = refl; reads = e; stored_as = refl }, (commit-shape gs frame g n e).supported);
     confirm = λ d z v. absurd (d refl);
   }
-  heard-by (body.Unsupported g) e w = record { commit = λ z l. absurd (clash l refl); confirm = λ d z v. absurd (d refl) }
-  heard-by (body.TokenRequest g n) e w = record { commit = λ z l. absurd (omega arith); confirm = λ d z v. absurd (d refl) }
-  heard-by (body.GroupRefusal g) e w = record { commit = λ z l. absurd (omega arith); confirm = λ d z v. absurd (d refl) }
-  heard-by (body.OtherCommit x) e w = record {
+  heard-by (Some (body.Unsupported g)) e w = record { commit = λ z l. absurd (clash l refl); confirm = λ d z v. absurd (d refl) }
+  heard-by (Some (body.TokenRequest g n)) e w = record { commit = λ z l. absurd (omega arith); confirm = λ d z v. absurd (d refl) }
+  heard-by (Some (body.GroupRefusal g)) e w = record { commit = λ z l. absurd (omega arith); confirm = λ d z v. absurd (d refl) }
+  heard-by (Some (body.OtherCommit x)) e w = record {
     commit = λ z l. absurd (clash l refl);
     confirm = λ d z v. absurd (d refl);
   }
-  heard-by (body.Confirm n) e w = record { commit = λ z l. absurd (clash l refl); confirm = λ d z v. is-verified n e v }
-  heard-by (body.OtherConfirm x) e w = record {
+  heard-by (Some (body.Confirm n)) e w = record { commit = λ z l. absurd (clash l refl); confirm = λ d z v. is-verified n e v }
+  heard-by (Some (body.OtherConfirm x)) e w = record {
     commit = λ z l. absurd (clash l refl);
     confirm = λ d z v. absurd ((other-confirm-shape gs frame x e).not_zero z);
   }
-  heard-by body.Malformed e w = absurd (clash refl w)
+  heard-by None e w = absurd (clash refl w)
 
   heard : eqb (view gs frame).sequence 0 ≡ false → Heard gs frame_call (message gs frame) (verdict is 1)
   unfolding message view
   heard w = heard-by (read_body gs frame) refl w
 
-frame-kind : (t a : List ℕ) (time : ℕ) (frame fresh expected : List ℕ) (verdict : ℕ) (f : Found) → Stocked (groups_in t) (receive a time frame fresh expected verdict)
+frame-kind : (t a : List ℕ) (time : ℕ) (frame fresh expected : List ℕ) (verdict : ℕ) (f : Option ℕ) → Stocked (groups_in t) (receive a time frame fresh expected verdict)
     → fresh_in (decode_table t).header fresh ≡ stock_in (groups_in t) (receive a time frame fresh expected verdict) → eqb (view (groups_in t) frame).sequence 0 ≡ false → Whole (look_by (decode_table t) f) → State (look_by (decode_table t) f).run.state
     → Does (groups_in t) (limit_in t) (receive a time frame fresh expected verdict) (look_by (decode_table t) f) (frame_step (decode_table t) f a time frame fresh expected verdict)
 unfolding frame_step
@@ -218,11 +211,11 @@ no-stock : (W : ℕ) → [] ≡ fresh_of W []
 unfolding fresh_of commits_of
 no-stock W = rw (zero-div W) refl
 
-clock-kind : (t : List ℕ) (time k : ℕ) → Whole (look_by (decode_table t) (found.At k)) → State (look_by (decode_table t) (found.At k)).run.state
-    → Does (groups_in t) (limit_in t) (expire time) (look_by (decode_table t) (found.At k)) (clock_step (decode_table t) k time)
+clock-kind : (t : List ℕ) (time k : ℕ) → Whole (look_by (decode_table t) (Some k)) → State (look_by (decode_table t) (Some k)).run.state
+    → Does (groups_in t) (limit_in t) (expire time) (look_by (decode_table t) (Some k)) (clock_step (decode_table t) k time)
 unfolding clock_step look_by
 clock-kind t time k W z =
-    clock-does (terms_of (decode_table t) (found.At k)) (brings (slot (decode_table t) k).address (clock_of (decode_table t).header time) [] no_token false) (expire time)
+    clock-does (terms_of (decode_table t) (Some k)) (brings (slot (decode_table t) k).address (clock_of (decode_table t).header time) [] no_token false) (expire time)
     (slot (decode_table t) k) refl (no-stock _) W z (no-frame (groups_in t) time)
 
 -- ---- how a call ends
@@ -234,7 +227,7 @@ pub data Told : List ℕ → Call → Type 0 where
   a_clock : {a : List ℕ} {time : ℕ} → Told a (expire time)
 
 -- a step o was made at the address a of the table t, which becomes u; r is the answer
-pub record Made (t u : List ℕ) (a : List ℕ) (o : Step) (r : Answer) : Type 0 where
+pub record Made (t u : List ℕ) (a : List ℕ) (o : Step) (r : Told) : Type 0 where
   pub answer : r ≡ said o a
   pub was : sound t ≡ true
   pub sound : sound u ≡ true
@@ -284,12 +277,12 @@ made_of t a o l s F = record {
   elsewhere = F.elsewhere;
 }
 
-said-done : (o : Step) (a : List ℕ) (r : Answer) → r ≡ said o a → is_done r.outcome ≡ true
+said-done : (o : Step) (a : List ℕ) (r : Told) → r ≡ said o a → is_done r.outcome ≡ true
 unfolding said
 said-done o a r e = rw e
 
 -- a step that is done was not refused
-step-done : (t : List ℕ) (f : Found) (o : Step) (a : List ℕ) → (finishes t f o a).answer ≡ said o a → o.refused ≡ false
+step-done : (t : List ℕ) (f : Option ℕ) (o : Step) (a : List ℕ) → (finishes t f o a).answer ≡ said o a → o.refused ≡ false
 unfolding finishes refused
 step-done t f o a e = go o.refused refl
   where
@@ -297,9 +290,9 @@ step-done t f o a e = go o.refused refl
     go true q = absurd (clash (said-done o a _ e) (rw q refl))
     go false q = refl
 
-turn-done : (w : Turn) (g : Found → Step) (t a : List ℕ) (f : Found) → w ≡ Go f → (turned w g t a).answer ≡ said (g f) a → (g f).refused ≡ false
+turn-done : (w : Result (Option ℕ) Refusal) (g : Option ℕ → Step) (t a : List ℕ) (f : Option ℕ) → w ≡ Ok f → (turned w g t a).answer ≡ said (g f) a → (g f).refused ≡ false
 unfolding turned
-turn-done w g t a f e q = step-done t f (g f) a (subst (λ (x : Turn). (turned x g t a).answer ≡ said (g f) a) e q)
+turn-done w g t a f e q = step-done t f (g f) a (subst (λ (x : Result (Option ℕ) Refusal). (turned x g t a).answer ≡ said (g f) a) e q)
 
 refused-not : (c : Refusal) (t : List ℕ) (l : Left) → l ≡ refuse t c → (is_done l.answer.outcome ≡ false) × (l.table ≡ t)
 unfolding refused
@@ -317,16 +310,16 @@ refused-done : (c : Refusal) → is_done (refused c).outcome ≡ false
 unfolding refused
 refused-done c = refl
 
-fresh-look-by : (T : Table) (f : Found) → ((k : ℕ) → slot T k ≡ no_peer) → look_by T f ≡ no_peer
+fresh-look-by : (T : Table) (f : Option ℕ) → ((k : ℕ) → slot T k ≡ no_peer) → look_by T f ≡ no_peer
 unfolding look_by
-fresh-look-by T (found.At k) e = e k
-fresh-look-by T found.Nothing e = refl
+fresh-look-by T (Some k) e = e k
+fresh-look-by T None e = refl
 
 pub fresh-look : (T : Table) (a : List ℕ) → ((k : ℕ) → slot T k ≡ no_peer) → look T a ≡ no_peer
 unfolding look
 fresh-look T a e = fresh-look-by T (finds T a) e
 
-nothing-done : (t : List ℕ) (time : ℕ) → Bytes t → sound t ≡ true → (is_done (expires_by found.Nothing t time).answer.outcome ≡ false) × ((expires_by found.Nothing t time).table ≡ t)
+nothing-done : (t : List ℕ) (time : ℕ) → Bytes t → sound t ≡ true → (is_done (expires_by None t time).answer.outcome ≡ false) × ((expires_by None t time).table ≡ t)
 unfolding expires_by ends none_due
 nothing-done t time b s = (refl, unchanged-ends none_due t b s)
 
@@ -342,7 +335,7 @@ module _ (t : List ℕ) (time : ℕ) (l : Left) (q : expires t time ≡ l) where
   clock-steps a o d m k =
       steps {c = expire time} a o a_clock (ap (λ (x : Left). is_done x.answer.outcome) q ∙ d) (subst (λ (x : Left). Made t x.table a o x.answer) (sym q) m) k
 
-expires-due : (t : List ℕ) (time : ℕ) (d : Found) → sound t ≡ true → due_slot (decode_table t) time ≡ d → expires t time ≡ expires_by d t time
+expires-due : (t : List ℕ) (time : ℕ) (d : Option ℕ) → sound t ≡ true → due_slot (decode_table t) time ≡ d → expires t time ≡ expires_by d t time
 unfolding expires
 expires-due t time d s e = rw (s, e)
 
@@ -395,10 +388,10 @@ write-ends t w = idles {c = write w} refl refl
 -- ---- a move
 
 -- tables of the same contents have the same record of every address, and the same Sync limit
-resized-by : (n : ℕ) (T : Table) (f : Found) → look_by (resized n T) f ≡ look_by T f
+resized-by : (n : ℕ) (T : Table) (f : Option ℕ) → look_by (resized n T) f ≡ look_by T f
 unfolding look_by slot
-resized-by n T (found.At k) = refl
-resized-by n T found.Nothing = refl
+resized-by n T (Some k) = refl
+resized-by n T None = refl
 
 resized-look : (n : ℕ) (T : Table) (a : List ℕ) → look (resized n T) a ≡ look T a
 unfolding look finds slot
@@ -527,36 +520,36 @@ module _ (L : Lawful) (t : List ℕ) (H : Held t) where
           (λ W z. subst (λ (p : Peer). Does (groups_in t) (limit_in t) (receive a time frame fresh expected verdict) p (frame_step (decode_table t) f a time frame fresh expected verdict)) q
           (frame-kind t a time frame fresh expected verdict f S (table-stock t s (receive a time frame fresh expected verdict) w.0) w.1 (subst Whole (sym q) W) (subst (λ (p : Peer). State p.run.state) (sym q) z)))
 
-  due-ends : (time k : ℕ) → time < 2 ^ 32 → sound t ≡ true → due_slot (decode_table t) time ≡ found.At k → Ends t (expire time)
+  due-ends : (time k : ℕ) → time < 2 ^ 32 → sound t ≡ true → due_slot (decode_table t) time ≡ Some k → Ends t (expire time)
   unfolding expires_by
   due-ends time k ht s e =
-      go (finish-ends t (slot (decode_table t) k).address b six.0 six.1 (found.At k) (clock_step (decode_table t) k time) G)
+      go (finish-ends t (slot (decode_table t) k).address b six.0 six.1 (Some k) (clock_step (decode_table t) k time) G)
     where
       six : (length (slot (decode_table t) k).address ≡ 6) × Bytes (slot (decode_table t) k).address
       six = L.expire_address t time k b s e
 
-      G : Good t (slot (decode_table t) k).address (found.At k) (clock_step (decode_table t) k time)
+      G : Good t (slot (decode_table t) k).address (Some k) (clock_step (decode_table t) k time)
       G = L.expire_good t time k b ht s e
 
-      at : look_by (decode_table t) (found.At k) ≡ look (decode_table t) (slot (decode_table t) k).address
-      at = entered-look t (slot (decode_table t) k).address (found.At k) G.came
+      at : look_by (decode_table t) (Some k) ≡ look (decode_table t) (slot (decode_table t) k).address
+      at = entered-look t (slot (decode_table t) k).address (Some k) G.came
 
-      go : (finishes t (found.At k) (clock_step (decode_table t) k time) (slot (decode_table t) k).address ≡ refuse t why.Full)
+      go : (finishes t (Some k) (clock_step (decode_table t) k time) (slot (decode_table t) k).address ≡ refuse t why.Full)
           ⊎ Finished t (slot (decode_table t) k).address (clock_step (decode_table t) k time)
-          (finishes t (found.At k) (clock_step (decode_table t) k time) (slot (decode_table t) k).address)
+          (finishes t (Some k) (clock_step (decode_table t) k time) (slot (decode_table t) k).address)
           → Ends t (expire time)
-      go (inl q) = let r = refused-not why.Full t _ q in clock-idles t time _ (expires-due t time (found.At k) s e) r.0 r.1
+      go (inl q) = let r = refused-not why.Full t _ q in clock-idles t time _ (expires-due t time (Some k) s e) r.0 r.1
       go (inr F) =
-          clock-steps t time _ (expires-due t time (found.At k) s e) (slot (decode_table t) k).address (clock_step (decode_table t) k time)
+          clock-steps t time _ (expires-due t time (Some k) s e) (slot (decode_table t) k).address (clock_step (decode_table t) k time)
           (said-done _ _ _ F.answer) (made_of t _ _ _ s F) (λ W z. subst (λ (p : Peer). Does (groups_in t) (limit_in t) (expire time) p (clock_step (decode_table t) k time)) at
           (clock-kind t time k (subst Whole (sym at) W) (subst (λ (p : Peer). State p.run.state) (sym at) z)))
 
   expire-ends : (time : ℕ) → time < 2 ^ 32 → Ends t (expire time)
   expire-ends time ht = go (sound t) refl
     where
-      on : sound t ≡ true → (d : Found) → due_slot (decode_table t) time ≡ d → Ends t (expire time)
-      on s found.Nothing e = let r = nothing-done t time b s in clock-idles t time _ (expires-due t time found.Nothing s e) r.0 r.1
-      on s (found.At k) e = due-ends time k ht s e
+      on : sound t ≡ true → (d : Option ℕ) → due_slot (decode_table t) time ≡ d → Ends t (expire time)
+      on s None e = let r = nothing-done t time b s in clock-idles t time _ (expires-due t time None s e) r.0 r.1
+      on s (Some k) e = due-ends time k ht s e
 
       go : (x : Bool) → sound t ≡ x → Ends t (expire time)
       go true s = on s (due_slot (decode_table t) time) refl

@@ -6,8 +6,8 @@ use Prim.Native.Nat.{ℕ}
 use Rattle.protocol.specs.Model.{Side}
 use Rattle.octets.specs.Octets.{Bytes}
 use Rattle.table.specs.Table.{decode_table, look}
-use Rattle.answers.specs.declared.Refusal.{Refusal}
-use Rattle.answers.specs.declared.Outcome.TheVariants as outcome
+use Rattle.causes.specs.declared.Refusal.{Refusal}
+use Rattle.answers.specs.Outcome as outcome
 use Rattle.moves.specs.declared.Direction.{Direction}
 use Rattle.moves.specs.Moves.{target_form, moved, SameContents, moves}
 use Rattle.agreement.specs.Calls.{move, Entry, AllHanded, more, is_done, table_after, table_of}

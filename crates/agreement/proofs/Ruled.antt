@@ -7,11 +7,9 @@ use Prim.Native.Nat.{ℕ, ◌+◌, ◌≤◌, ◌<◌}
 use lib.Dec.{eqb}
 use lib.ListN.{length, get_or}
 use borrow.Author.Tests.{eqb-true, ne_eqb, ltb-false}
-use Rattle.std.specs.Prelude.{if◌then◌else◌}
+use Rattle.std.specs.Prelude.{if◌then◌else◌, Option, Some, None}
 use Rattle.octets.proofs.Scan.{clash}
 use Rattle.groups.specs.Groups.{fresh_for, fresh_at, listed, first_left}
-use Rattle.groups.specs.declared.Choice.{Choice}
-use Rattle.groups.specs.declared.Choice.TheVariants as choice
 use Rattle.groups.proofs.Laws.{chosen}
 use Rattle.record.specs.declared.Run.{Run}
 use Rattle.record.specs.declared.Link.{Link}
@@ -222,12 +220,12 @@ module _ (gs : List ℕ) (c : Call) (κ : Clock) (p : Peer) (n : is_start c ≡ 
   formed-own address m s e k =
       forms_own n s (subst (λ (x : ℕ). Hears gs c x m.commit) e k) (record { state = refl; sync = refl; sc = refl; group = e; own = refl; peer = refl }) refl
 
-  switched-to : (rejected : ℕ) (k : Choice) → first_left gs 0 rejected ≡ k → p.run.state ≡ 1 → Stocked gs c
+  switched-to : (rejected : ℕ) (k : Option (ℕ × ℕ)) → first_left gs 0 rejected ≡ k → p.run.state ≡ 1 → Stocked gs c
       → Does gs κ.limit c p (switching_to κ p rejected k (stock_in gs c))
   unfolding switching_to sending with_run set_t0 switched
-  switched-to rejected (choice.Group i g) e s S =
+  switched-to rejected (Some (i, g)) e s S =
       let k = chosen gs rejected i g e in switches n s (S.place i g k.0 k.1) (record { state = s; sync = refl; group = refl; own = refl }) refl
-  switched-to rejected choice.None e s S = abandoned
+  switched-to rejected None e s S = abandoned
 
   switched-over : p.run.state ≡ 1 → Stocked gs c → Does gs κ.limit c p (switching κ p gs (stock_in gs c))
   unfolding switching

@@ -6,7 +6,7 @@ use mathlib.Core.List.{List}
 use Prim.Native.Nat.{ℕ, ◌+◌, ◌≤◌}
 use lib.Dec.{eqb}
 use lib.ListN.{take}
-use Rattle.std.specs.Prelude.{if◌then◌else◌}
+use Rattle.std.specs.Prelude.{if◌then◌else◌, Some}
 use Rattle.groups.specs.Groups.{stored, commit_length, fresh_for}
 use Rattle.frame.specs.Frame.{read_body, commit_of}
 use Rattle.frame.specs.declared.Body.TheVariants as body
@@ -75,13 +75,13 @@ pub record Confirmed (q : Peer) (n m g : ℕ) (c d : List ℕ) : Type 0 where
 pub record Hears (gs : List ℕ) (c : Call) (g : ℕ) (theirs : List ℕ) : Type 0 where
   pub token : ℕ
   pub frame : is_frame c ≡ true
-  pub reads : read_body gs (frame_of c) ≡ body.Commit g token
+  pub reads : read_body gs (frame_of c) ≡ Some (body.Commit g token)
   pub stored_as : theirs ≡ stored (commit_of (frame_of c) g token)
 
 -- the frame is a Confirm with verdict 1
 pub data Verified (gs : List ℕ) : Call → Type 0 where
   verified : {address : List ℕ} {time : ℕ} {frame fresh expected : List ℕ} {n : ℕ}
-      → read_body gs frame ≡ body.Confirm n → Verified gs (receive address time frame fresh expected 1)
+      → read_body gs frame ≡ Some (body.Confirm n) → Verified gs (receive address time frame fresh expected 1)
 
 pub data Does (gs : List ℕ) (limit : ℕ) (c : Call) (p : Peer) : Step → Type 0 where
   -- nothing is sent, used or told, and the record says what it said

@@ -1,4 +1,5 @@
 -- The stock of a sound table's call: each listed group has its place, a commit used afresh is no 0 group's, and it is zero past its length.
+use Rattle.std.specs.Prelude.{Option, Some, None}
 use mathlib.Core.Path.{◌≡◌, refl, sym, ap, ◌∙◌, subst}
 use mathlib.Core.Bool.{Bool, true, false, not, ◌||◌}
 use mathlib.Core.List.{List, [], ◌∷◌, ◌++◌}
@@ -10,8 +11,6 @@ use lib.ListN.{length, take, drop, get_or, length-drop, take-append-drop}
 use lib.Seq.{length-take-le}
 use borrow.Author.Tests.{eq-eqb, ne_eqb, not-true}
 use Rattle.octets.specs.Octets.{all_zero}
-use Rattle.octets.specs.declared.Found.{Found}
-use Rattle.octets.specs.declared.Found.TheVariants as found
 use Rattle.octets.proofs.Scan.{clash, and_left, and_right}
 use Rattle.octets.proofs.Tests.{zero_is}
 use Rattle.groups.specs.Groups.{width, known, listed, commit_length, stored, place_from, place, place_or0, index_of, fresh_of, fresh_at, fresh_for, tails_ok, fresh_ok}
@@ -38,15 +37,15 @@ listed_at (x ∷ xs) (suc i) g l e = or-true (eqb x g) (listed_at xs i g (omega 
     or-true true e = refl
     or-true false e = e
 
-place_of : (gs : List ℕ) (i j g : ℕ) → each_once gs ≡ true → i < length gs → get_or gs i 0 ≡ g → place_from gs j g ≡ found.At (j + i)
+place_of : (gs : List ℕ) (i j g : ℕ) → each_once gs ≡ true → i < length gs → get_or gs i 0 ≡ g → place_from gs j g ≡ Some (j + i)
 unfolding place_from each_once
 place_of [] i j g o l e = absurd (omega arith)
-place_of (x ∷ xs) zero j g o l e = rw (eq-eqb x g e) (let z : j ≡ j + 0 = omega arith in ap found.At z)
+place_of (x ∷ xs) zero j g o l e = rw (eq-eqb x g e) (let z : j ≡ j + 0 = omega arith in ap Some z)
 place_of (x ∷ xs) (suc i) j g o l e =
     let k : i < length xs = omega arith in
     let n : eqb x g ≡ false = ne_eqb x g (λ q. clash (listed_at xs i x k (e ∙ sym q)) (not-true _ (and_left _ _ o))) in
     let z : suc j + i ≡ j + suc i = omega arith in
-    rw n (place_of xs i (suc j) g (and_right (not (listed xs x)) _ o) k e ∙ ap found.At z)
+    rw n (place_of xs i (suc j) g (and_right (not (listed xs x)) _ o) k e ∙ ap Some z)
 
 index-of : (gs : List ℕ) (i g : ℕ) → each_once gs ≡ true → i < length gs → get_or gs i 0 ≡ g → index_of gs g ≡ i
 unfolding index_of place
@@ -106,9 +105,9 @@ module _ (W : ℕ) (gs s : List ℕ) (low : 1 ≤ W) (high : W ≤ width) (some 
     padded = padded-at i g l q;
   }
 
-  found_at : (g : ℕ) (f : Found) → place gs g ≡ f → listed gs g ≡ true → (i : ℕ) × (place gs g ≡ found.At i)
-  found_at g (found.At i) e l = (i, e)
-  found_at g found.Nothing e l = absurd (clash l (listed-place gs g ∙ rw e))
+  found_at : (g : ℕ) (f : Option ℕ) → place gs g ≡ f → listed gs g ≡ true → (i : ℕ) × (place gs g ≡ Some i)
+  found_at g (Some i) e l = (i, e)
+  found_at g None e l = absurd (clash l (listed-place gs g ∙ rw e))
 
   pub stocked : (c : Call) → stock_of c ≡ s → Stocked gs c
   unfolding fresh_for

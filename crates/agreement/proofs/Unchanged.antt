@@ -9,7 +9,7 @@ use Rattle.octets.proofs.Scan.{clash}
 use Rattle.record.specs.declared.Form.{Form}
 use Rattle.record.specs.Layout.{form_of}
 use Rattle.record.specs.SettingsOctets.{reserved_zero}
-use Rattle.answers.specs.declared.Refusal.TheVariants as why
+use Rattle.causes.specs.declared.Refusal.TheVariants as why
 use Rattle.answers.specs.Answers.{returned, refuse, refused, none_due}
 use Rattle.calls.specs.Calls.{initializes_from}
 use Rattle.agreement.specs.Calls.{Writing, Call, initialize, initiate, kill, receive, expire, write, fill, move, Entry, left, done, table_after, mine, table_of, answer_of, is_write, without_writes}

@@ -1,4 +1,5 @@
 -- A list of calls that keeps to what is needed of it is a list of acts that the protocol allows.
+use Rattle.std.specs.Prelude.{Some}
 use mathlib.Core.Path.{◌≡◌, refl, sym, ap, ◌∙◌, subst, subst⁻¹}
 use mathlib.Core.Bool.{Bool, true, false}
 use mathlib.Core.List.{List, [], ◌∷◌}
@@ -106,7 +107,7 @@ record ConfirmCall (gs b : List ℕ) (c : Call) : Type 0 where
   counter : ℕ
   whole : c ≡ receive address time frame fresh expected 1
   near : same_address address b ≡ true
-  reads : read_body gs frame ≡ body.Confirm counter
+  reads : read_body gs frame ≡ Some (body.Confirm counter)
 
 confirm-near : {b a f r x : List ℕ} {t v : ℕ} → From b (receive a t f r x v) → same_address a b ≡ true
 confirm-near (from s) = s
@@ -241,7 +242,7 @@ module _ (L : Lawful) (own : Side → List ℕ) where
             subst (λ (y : Pair). SendsConfirm (own_of y) (peer_of y) (deed-of k H).0) (sym (says-link _ shown-left.link (not-true _ s)) ∙ z) c
 
     -- a Commit sent, and read
-    commit-sent : (gs octets : List ℕ) (g n : ℕ) (x : Frame) → read_body gs octets ≡ body.Commit g n → SendsBy e.side address octets h e x
+    commit-sent : (gs octets : List ℕ) (g n : ℕ) (x : Frame) → read_body gs octets ≡ Some (body.Commit g n) → SendsBy e.side address octets h e x
         → SendsCommit (record { group = g; octets = stored (commit_of octets g n) }) (deed-of k H).0
     commit-sent gs octets g n x r S = go (x.status is 0) refl
       where
@@ -274,7 +275,7 @@ module _ (L : Lawful) (own : Side → List ℕ) where
       → SendsConfirm (own_of p) (peer_of p) (deed-of k H).0) z (confirm-made k H octets x p)
 
   commit-sent-by : {e : Entry} {h : List Entry} (k : Handed e) (H : AllHanded h) (Y : Side) (gs octets : List ℕ) (g n : ℕ) (x : Frame) → e.side ≡ Y
-      → read_body gs octets ≡ body.Commit g n → SendsBy Y (own (other Y)) octets h e x → SendsCommit (record { group = g; octets = stored (commit_of octets g n) }) (deed-of k H).0
+      → read_body gs octets ≡ Some (body.Commit g n) → SendsBy Y (own (other Y)) octets h e x → SendsCommit (record { group = g; octets = stored (commit_of octets g n) }) (deed-of k H).0
   commit-sent-by {e} {h} k H Y gs octets g n x z r =
       subst (λ (Z : Side). SendsBy Z (own (other Z)) octets h e x → SendsCommit (record { group = g; octets = stored (commit_of octets g n) }) (deed-of k H).0) z
       (commit-sent k H gs octets g n x r)
@@ -317,7 +318,7 @@ module _ (L : Lawful) (own : Side → List ℕ) where
         let n = w.hears.token in
         let gs = groups_in (table_of h e.side) in
         let z : frame_of e.call ≡ x.frame = ap frame_of x.whole in
-        let r : read_body gs x.frame ≡ body.Commit q.group n = rw z at w.hears.reads in
+        let r : read_body gs x.frame ≡ Some (body.Commit q.group n) = rw z at w.hears.reads in
         let y : q.octets ≡ stored (commit_of x.frame q.group n) = rw z at w.hears.stored_as in
         let d : Commit = record { group = q.group; octets = stored (commit_of x.frame q.group n) } in
         let C = P.only e.side e h x.address x.time x.frame x.fresh x.expected x.verdict q.group n last w.done refl x.whole x.near r w.forms in

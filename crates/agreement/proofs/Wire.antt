@@ -1,4 +1,5 @@
 -- Octets that a printer sent and that read as a status 0 Commit in a listed group are its record's Commit: group and stored commit are the run's own.
+use Rattle.std.specs.Prelude.{Some}
 use mathlib.Core.Path.{◌≡◌, sym, ap, ◌∙◌, subst}
 use mathlib.Core.Bool.{true, false}
 use mathlib.Core.List.{List, []}
@@ -31,7 +32,7 @@ outside-not e = let z : ◌≡◌ {A = ℕ} 0 1 = cc in absurd (omega arith)
 octets-is : {a s : List ℕ} → Octets a ≡ Octets s → a ≡ s
 octets-is e = cc
 
-module _ (gs s : List ℕ) (g n : ℕ) (r : read_body gs s ≡ body_is.Commit g n) where
+module _ (gs s : List ℕ) (g n : ℕ) (r : read_body gs s ≡ Some (body_is.Commit g n)) where
   offers : is_offer (read_body gs s) ≡ true
   offers = rw r
 

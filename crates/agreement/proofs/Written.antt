@@ -8,10 +8,8 @@ use lib.Dec.{eqb}
 use lib.ListN.{length}
 use borrow.Author.Tests.{eqb-true, le-ltb}
 use Rattle.protocol.specs.Model.{Side}
-use Rattle.std.specs.Prelude.{if◌then◌else◌}
+use Rattle.std.specs.Prelude.{if◌then◌else◌, Option, Some, None, Ok, Err}
 use Rattle.octets.specs.Octets.{num, individual, zero_address, same_address}
-use Rattle.octets.specs.declared.Found.{Found}
-use Rattle.octets.specs.declared.Found.TheVariants as found
 use Rattle.octets.proofs.Scan.{clash, and_left, and_right}
 use Rattle.octets.proofs.Laws.{put_all}
 use Rattle.frame.specs.Writing.{Drawn, Octets, Outside, parts_body, written, leaves}
@@ -22,8 +20,7 @@ use Rattle.table.specs.Table.{decode_table, in_use, belongs, slot, finds, look, 
 use Rattle.table.proofs.Laws.{found_below, sound-peer}
 use Rattle.rules.specs.declared.Frame.{Frame}
 use Rattle.rules.specs.Book.{◌is◌}
-use Rattle.answers.specs.declared.Refusal.{Refusal}
-use Rattle.writer.specs.declared.Wrote.TheVariants as wrote
+use Rattle.causes.specs.declared.Refusal.{Refusal}
 use Rattle.writer.specs.Writer.{LeftOut, draws, writes_parts, record_commit, record_confirm, record_body, writes_record_by, writes_record}
 use Rattle.writer.proofs.Theorems.{Draws, outside, short, whole, FromParts, malformed, made, parts-one, FromRecord, unsound, unusable, absent, record-one}
 use Rattle.writer.proofs.Theorems as theorems
@@ -75,11 +72,11 @@ module _ (a value expected : List ℕ) (x : Frame) where
   writing_by out b = if b then write_record a x.sequence value out else write_parts x.sequence x.status x.group x.counter token [] out
 
 module _ (t : List ℕ) (s : sound t ≡ true) (octets out : List ℕ) where
-  record-writes-by : (a value : List ℕ) (q : ℕ) (f : Found) → finds (decode_table t) a ≡ f
+  record-writes-by : (a value : List ℕ) (q : ℕ) (f : Option ℕ) → finds (decode_table t) a ≡ f
       → record_body (groups_in t) (look_by (decode_table t) f) q value ≡ Octets octets → writes_record t a q value out ≡ draws (Octets octets) out
   unfolding look_by entry found_entry writes_record writes_record_by belongs
-  record-writes-by a value q found.Nothing e m = absurd (none-outside (groups_in t) value octets q m)
-  record-writes-by a value q (found.At k) e m =
+  record-writes-by a value q None e m = absurd (none-outside (groups_in t) value octets q m)
+  record-writes-by a value q (Some k) e m =
       let w = found_below (decode_table t) a k e in
       let u : (slot (decode_table t) k).used ≡ 1 = eqb-true _ _ (and_left _ _ w.1) in
       let P = peer-in-use _ _ _ _ (λ z. omega arith) (sound-peer t s k w.0) in
@@ -128,14 +125,14 @@ sent-written {e} {h} {X} {a} {octets} {x} (more k H) S = record { makes = λ out
 -- ---- and what the writer writes is sent
 
 not-refused : {c : Refusal} {n : ℕ} {r s : List ℕ} {X : Type 0}
-    → ◌≡◌ {A = LeftOut} (record { answer = wrote.Refused c; out = r }) (record { answer = wrote.Length n; out = s }) → X
+    → ◌≡◌ {A = LeftOut} (record { answer = Err c; out = r }) (record { answer = Ok n; out = s }) → X
 not-refused e = let q = ap (λ (x : LeftOut). x.answer) e in let z : ◌≡◌ {A = ℕ} 0 1 = cc in absurd (omega arith)
 
-length-is : {m n : ℕ} → wrote.Length m ≡ wrote.Length n → m ≡ n
+length-is : {m n : ℕ} → Ok m ≡ Ok n → m ≡ n
 length-is e = cc
 
 -- a buffer of the frame's own length says all of it
-drawn-is : (d : Drawn) (s : List ℕ) (l : LeftOut) → Draws d s l → l ≡ record { answer = wrote.Length (length s); out = s } → d ≡ Octets s
+drawn-is : (d : Drawn) (s : List ℕ) (l : LeftOut) → Draws d s l → l ≡ record { answer = Ok (length s); out = s } → d ≡ Octets s
 drawn-is d s l (outside e) q = not-refused q
 drawn-is d s l (short r e h) q = not-refused q
 drawn-is d s l (whole r e h) q =
@@ -144,7 +141,7 @@ drawn-is d s l (whole r e h) q =
 
 module _ (t octets : List ℕ) where
   abbrev Whole : LeftOut → Type 0
-  Whole l = l ≡ record { answer = wrote.Length (length octets); out = octets }
+  Whole l = l ≡ record { answer = Ok (length octets); out = octets }
 
   record-drawn : (a value : List ℕ) (q : ℕ) (l : LeftOut) → FromRecord t a q value octets l → Whole l
       → record_body (groups_in t) (look (decode_table t) a) q value ≡ Octets octets

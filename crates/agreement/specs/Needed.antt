@@ -1,7 +1,7 @@
 -- Demand 3 with less asked of the list than the scope's premises. Nothing is asked of own addresses, of calls about other addresses, of frames that form
 -- no pair and of Confirms that are not accepted; and of single links only that an accepted Confirm is right. `Premises` gives this (`premises-needed`),
 -- and demand 3 is proved from this alone (`demand3-needed`), both in proofs/Demand.antt.
-use Rattle.std.specs.Prelude.{◌≡◌, Bool, true, false, List, ℕ}
+use Rattle.std.specs.Prelude.{◌≡◌, Bool, true, false, List, ℕ, Some}
 use Rattle.protocol.specs.Model.{Side, A, B, other, Commit}
 use Rattle.octets.specs.Octets.{same_address}
 use Rattle.groups.specs.Groups.{stored}
@@ -22,7 +22,7 @@ pub record SentCommit (X : Side) (a groups : List ℕ) (c : Commit) (h : List En
   pub octets : List ℕ
   pub token : ℕ
   pub sent : Sent X a octets h
-  pub reads : read_body groups octets ≡ body.Commit c.group token
+  pub reads : read_body groups octets ≡ Some (body.Commit c.group token)
   pub commit : stored (commit_of octets c.group token) ≡ c.octets
 
 -- a Confirm from the other printer is accepted for a run's pair only if an earlier call of it made a Confirm over that same pair
@@ -30,7 +30,7 @@ pub record Rightful (own : Side → List ℕ) (h : List Entry) : Type 0 where
   pub right : (X : Side) (e : Entry) (before : List Entry) (address : List ℕ) (time : ℕ) (frame fresh expected : List ℕ) (n : ℕ)
       → Comes e before h → stepped before e ≡ true → e.side ≡ X → e.call ≡ receive address time frame fresh expected 1
       → same_address address (own (other X)) ≡ true
-      → read_body (groups_in (table_of before X)) frame ≡ body.Confirm n
+      → read_body (groups_in (table_of before X)) frame ≡ Some (body.Confirm n)
       → (story_of before X (own (other X))).running ≡ true → (story_of before X (own (other X))).stands ≡ true
       → is_accepted (answer_of before e).event ≡ true
       → (octets : List ℕ) × SentOver (other X) (own X) octets (exchanged (story_of before X (own (other X))).pair) before
@@ -43,7 +43,7 @@ pub record Needed (own : Side → List ℕ) (h : List Entry) : Type 0 where
   pub only : (X : Side) (e : Entry) (before : List Entry) (address : List ℕ) (time : ℕ) (frame fresh expected : List ℕ) (verdict group token : ℕ)
       → Comes e before h → stepped before e ≡ true → e.side ≡ X → e.call ≡ receive address time frame fresh expected verdict
       → same_address address (own (other X)) ≡ true
-      → read_body (groups_in (table_of before X)) frame ≡ body.Commit group token
+      → read_body (groups_in (table_of before X)) frame ≡ Some (body.Commit group token)
       → forms_pair e.call (answer_of before e) ≡ true
       → SentCommit (other X) (own X) (groups_in (table_of before X)) (record { group = group; octets = stored (commit_of frame group token) }) before
   pub rightful : Rightful own h

@@ -1,6 +1,6 @@
 -- Demand 3, over every list of calls of two printers: what is asked of the list, and what then holds. Calls has the list and its tables, Story what
 -- the answers tell of an address, Sent what was sent. `own` gives the two own addresses. The theorem is `demand3` in proofs/Demand.antt.
-use Rattle.std.specs.Prelude.{◌≡◌, Bool, true, false, List, ◌∷◌, ℕ, suc, ◌≤◌}
+use Rattle.std.specs.Prelude.{◌≡◌, Bool, true, false, List, ◌∷◌, ℕ, suc, ◌≤◌, Some}
 use Rattle.protocol.specs.Model.{Side, A, B, other, Commit}
 use Rattle.protocol.specs.Repeats.{Within, Each, AtMost, Limited, newest_limit}
 use Rattle.octets.specs.Scan.{bit}
@@ -43,7 +43,7 @@ pub record Premises (own : Side → List ℕ) (h : List Entry) : Type 0 where
   pub right : (X : Side) (e : Entry) (before : List Entry) (address : List ℕ) (time : ℕ) (frame fresh expected : List ℕ) (n : ℕ) (p : Pair)
       → Comes e before h → stepped before e ≡ true → e.side ≡ X → e.call ≡ receive address time frame fresh expected 1
       → same_address address (own (other X)) ≡ true
-      → read_body (groups_in (table_of before X)) frame ≡ body.Confirm n → Meets (story_of before X (own (other X))) p
+      → read_body (groups_in (table_of before X)) frame ≡ Some (body.Confirm n) → Meets (story_of before X (own (other X))) p
       → SentOver (other X) (own X) frame (exchanged p) before
 
 -- ---- what a printer is set to

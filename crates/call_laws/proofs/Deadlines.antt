@@ -1,5 +1,6 @@
 -- A DEADLINE MOVES ONLY when a frame is sent, or a run or link ends: for every call but set up, and every address. And where a call answers neither frame nor
 -- event, a kill apart, none moves.
+use Rattle.std.specs.Prelude.{Option, Some, None, Result, Ok}
 use mathlib.Core.Path.{◌≡◌, refl, sym, ap, ◌∙◌, subst}
 use mathlib.Core.Logic.{inl, inr}
 use mathlib.Core.Bool.{Bool, true, false, ◌||◌}
@@ -8,8 +9,6 @@ use Prim.Native.Nat.{ℕ, ◌^◌, ◌<◌}
 use native.Mathlib.Decide.{ℕ_discrete}
 use lib.ListN.{length}
 use Rattle.octets.specs.Octets.{Bytes, same_address}
-use Rattle.octets.specs.declared.Found.{Found}
-use Rattle.octets.specs.declared.Found.TheVariants as found
 use Rattle.octets.proofs.Scan.{clash, cases}
 use Rattle.octets.proofs.Tests.{same-address}
 use Rattle.record.specs.declared.Peer.{Peer}
@@ -17,16 +16,13 @@ use Rattle.record.specs.Layout.{no_run, no_link, no_peer}
 use Rattle.record.proofs.Laws.{shape-peer}
 use Rattle.soundness.proofs.Laws.{run-states, peer-unused, peer-in-use}
 use Rattle.table.specs.Table.{decode_table, slot, look_by, look, sound, entry}
-use Rattle.table.proofs.Laws.{entry_at}
+use Rattle.table.proofs.Laws.{entry-found}
 use Rattle.rules.specs.Book.{has_run, has_link, Step, silence, on_start, on_frame, on_clock}
 use Rattle.rules.proofs.Ladders.{start-asked, frame-asked, clock-asked}
 use Rattle.rule_laws.specs.Deadlines.{Still, Ends, run_ends, link_ends}
 use Rattle.rule_laws.proofs.Deadlines.{StepMoves, still, has_sent, has_ended, act-moves}
 use Rattle.rule_laws.proofs.Keeps.{Kept, parts}
-use Rattle.answers.specs.declared.Answer.{Answer}
-use Rattle.answers.specs.declared.Turn.{Turn}
-use Rattle.answers.specs.declared.Turn.TheVariants.{Go}
-use Rattle.answers.specs.Answers.{Left, turned, said}
+use Rattle.answers.specs.Answers.{Told, Left, turned, said}
 use Rattle.answers.proofs.Ending.{Finished, Turned, denied, done, turn-ends}
 use Rattle.calls.specs.Calls.{start_turn, start_step, initiates, kill_turn, kill_step, kills, frame_turn, frame_step, receives, due_slot, clock_step, expires}
 use Rattle.call_laws.specs.Isolation.{PeerCall, initiate, kill, receive, expire, Handed, an_initiate, a_kill, a_receive, an_expire, left}
@@ -34,6 +30,7 @@ use Rattle.call_laws.specs.Deadlines.{StillAt, Moves, sends, ends, Silent, is_ki
 use Rattle.call_laws.proofs.Good.{groups_in, own_in, high_in, entered-kept, start-entered, kill-entered, frame-entered, no-run, initiate_good, kill_good, receive_good, due-kept, due-entry, expire_address}
 use Rattle.call_laws.proofs.Ends.{look-found, entered-finds, takes, clock-ends}
 use Rattle.call_laws.proofs.Sound.{expire-keeps-none}
+use Rattle.causes.specs.declared.Refusal.{Refusal}
 
 -- a record that stays keeps its deadlines
 same-still : (p q : Peer) → q ≡ p → Still p q
@@ -48,10 +45,10 @@ module _ (t x : List ℕ) (k : Bool) (l : Left) (s : Step) (F : Finished t x s l
   moves-here : StepMoves k (look (decode_table t) x) s → (StillAt t x l → ⊥) → Moves t x k l
   unfolding said
   moves-here (still q) d = absurd (d (subst (Still (look (decode_table t) x)) (sym F.here) q))
-  moves-here (has_sent q) d = sends (ap (λ (r : Answer). r.address) F.answer) (λ e. q (sym (ap (λ (r : Answer). r.frames) F.answer) ∙ e))
+  moves-here (has_sent q) d = sends (ap (λ (r : Told). r.address) F.answer) (λ e. q (sym (ap (λ (r : Told). r.frames) F.answer) ∙ e))
   moves-here (has_ended q u) d =
-      ends (ap (λ (r : Answer). r.address) F.answer) (subst (Ends (look (decode_table t) x)) (sym F.here) q)
-      (λ e. u (sym (ap (λ (r : Answer). r.event) F.answer) ∙ e))
+      ends (ap (λ (r : Told). r.address) F.answer) (subst (Ends (look (decode_table t) x)) (sym F.here) q)
+      (λ e. u (sym (ap (λ (r : Told). r.event) F.answer) ∙ e))
 
   -- of any address a
   step-moves : (a : List ℕ) → length x ≡ 6 → Bytes x → length a ≡ 6 → Bytes a → StepMoves k (look (decode_table t) x) s → (StillAt t a l → ⊥) → Moves t a k l
@@ -61,22 +58,22 @@ module _ (t x : List ℕ) (k : Bool) (l : Left) (s : Step) (F : Finished t x s l
   ]
 
 -- a call about x: refused, or its step is done
-turn-moves : (w : Turn) (g : Found → Step) (t x a : List ℕ) (k : Bool) → length x ≡ 6 → Bytes x → length a ≡ 6 → Bytes a → Turned w g t x
-    → ((f : Found) → w ≡ Go f → StepMoves k (look (decode_table t) x) (g f)) → (StillAt t a (turned w g t x) → ⊥) → Moves t a k (turned w g t x)
+turn-moves : (w : Result (Option ℕ) Refusal) (g : Option ℕ → Step) (t x a : List ℕ) (k : Bool) → length x ≡ 6 → Bytes x → length a ≡ 6 → Bytes a → Turned w g t x
+    → ((f : Option ℕ) → w ≡ Ok f → StepMoves k (look (decode_table t) x) (g f)) → (StillAt t a (turned w g t x) → ⊥) → Moves t a k (turned w g t x)
 turn-moves w g t x a k lx bx la ba (denied c e) m d = absurd (d (unchanged-still t a (turned w g t x) (ap (λ (l : Left). l.table) e)))
 turn-moves w g t x a k lx bx la ba (done f q F) m d = step-moves t x k (turned w g t x) (g f) F a lx bx la ba (m f q) d
 
 -- ---- each call's step
 
 module _ (t x : List ℕ) (b : Bytes t) (lx : length x ≡ 6) (bx : Bytes x) where
-  start-moves : (time : ℕ) (fresh : List ℕ) (f : Found) → start_turn (entry t x) t fresh ≡ Go f → StepMoves false (look (decode_table t) x) (start_step (decode_table t) f x time fresh)
+  start-moves : (time : ℕ) (fresh : List ℕ) (f : Option ℕ) → start_turn (entry t x) t fresh ≡ Ok f → StepMoves false (look (decode_table t) x) (start_step (decode_table t) f x time fresh)
   unfolding start_step on_start
   start-moves time fresh f e =
       let w = start-entered t x fresh (entry t x) f refl e in
       subst (λ (p : Peer). StepMoves false p (start_step (decode_table t) f x time fresh)) (look-found (decode_table t) x f (entered-finds t x f w.0))
       (act-moves _ _ (look_by (decode_table t) f) silence (high_in t) (entered-kept t x b lx bx f w.0) (start-asked _ _ _ silence (no-run _ w.2)))
 
-  frame-moves : (time : ℕ) (frame fresh expected : List ℕ) (verdict : ℕ) (f : Found) → frame_turn (entry t x) t frame fresh expected verdict ≡ Go f
+  frame-moves : (time : ℕ) (frame fresh expected : List ℕ) (verdict : ℕ) (f : Option ℕ) → frame_turn (entry t x) t frame fresh expected verdict ≡ Ok f
       → StepMoves false (look (decode_table t) x) (frame_step (decode_table t) f x time frame fresh expected verdict)
   unfolding frame_step on_frame
   frame-moves time frame fresh expected verdict f e =
@@ -97,20 +94,20 @@ module _ (t x : List ℕ) (b : Bytes t) (lx : length x ≡ 6) (bx : Bytes x) whe
       go false true h i z = has_ended (link_ends i refl) (λ e. refl)
       go false false h i z = absurd (clash z refl)
 
-  kill-moves : (f : Found) → kill_turn (entry t x) ≡ Go f → StepMoves true (look (decode_table t) x) kill_step
+  kill-moves : (f : Option ℕ) → kill_turn (entry t x) ≡ Ok f → StepMoves true (look (decode_table t) x) kill_step
   kill-moves f e =
       let w = kill-entered t x (entry t x) f refl e in
       subst (λ (p : Peer). StepMoves true p kill_step) (look-found (decode_table t) x f (entered-finds t x f w)) (freed-moves (look_by (decode_table t) f) (entered-kept t x b lx bx f w))
 
 -- the clock call, by whose deadline it takes
 module _ (t : List ℕ) (time : ℕ) (b : Bytes t) (ht : time < 2 ^ 32) (a : List ℕ) (la : length a ≡ 6) (ba : Bytes a) where
-  due-moves : (k : ℕ) → (s : sound t ≡ true) → (e : due_slot (decode_table t) time ≡ found.At k)
+  due-moves : (k : ℕ) → (s : sound t ≡ true) → (e : due_slot (decode_table t) time ≡ Some k)
       → StepMoves false (look (decode_table t) (slot (decode_table t) k).address) (clock_step (decode_table t) k time)
   unfolding clock_step on_clock look_by
   due-moves k s e =
       let kept = due-kept t time k b s e in
       subst (λ (p : Peer). StepMoves false p (clock_step (decode_table t) k time))
-      (look-found (decode_table t) (slot (decode_table t) k).address (found.At k) (entry_at t _ k (due-entry t time k b s e)).1.1)
+      (look-found (decode_table t) (slot (decode_table t) k).address (Some k) (entry-found t _ (Some k) (due-entry t time k b s e)).1.1)
       (act-moves _ _ (slot (decode_table t) k) silence (high_in t) kept
       (clock-asked _ _ _ (run-states (groups_in t) (high_in t) (slot (decode_table t) k).run (parts (own_in t) (groups_in t) (high_in t) _ _ kept).run)))
 
@@ -118,9 +115,9 @@ module _ (t : List ℕ) (time : ℕ) (b : Bytes t) (ht : time < 2 ^ 32) (a : Lis
   unfolding expires
   unsound-clock n = rw n refl
 
-  clock-moves : (f : Found) → due_slot (decode_table t) time ≡ f → (StillAt t a (expires t time) → ⊥) → Moves t a false (expires t time)
-  clock-moves found.Nothing e = λ d. absurd (d (unchanged-still t a (expires t time) (expire-keeps-none t time b e)))
-  clock-moves (found.At k) e = elim (cases (sound t)) [
+  clock-moves : (f : Option ℕ) → due_slot (decode_table t) time ≡ f → (StillAt t a (expires t time) → ⊥) → Moves t a false (expires t time)
+  clock-moves None e = λ d. absurd (d (unchanged-still t a (expires t time) (expire-keeps-none t time b e)))
+  clock-moves (Some k) e = elim (cases (sound t)) [
     | inl s ↦
         let x = expire_address t time k b s e in
         subst (λ (l : Left). (StillAt t a l → ⊥) → Moves t a false l) (sym (takes t time k s e))

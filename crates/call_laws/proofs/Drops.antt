@@ -5,18 +5,14 @@ use mathlib.Core.List.{List}
 use Prim.Native.Nat.{ℕ}
 use native.Mathlib.Omega.{arith}
 use Rattle.octets.specs.Octets.{Bytes}
-use Rattle.std.specs.Prelude.{if◌then◌else◌}
-use Rattle.octets.specs.declared.Found.{Found}
-use Rattle.octets.specs.declared.Found.TheVariants as found
+use Rattle.std.specs.Prelude.{if◌then◌else◌, Option, Some, None, Result, Ok, Err}
 use Rattle.record.specs.declared.Peer.{Peer}
 use Rattle.table.specs.Table.{decode_table, encode_table, placed, slot, free_slot, look_by, sound, entry}
 use Rattle.table.proofs.Kept.{placed-again}
 use Rattle.rules.specs.declared.Act.TheVariants.{Drop}
 use Rattle.rules.specs.Book.{Step, answering}
 use Rattle.rules.proofs.Drops.{drop_named, named-drop}
-use Rattle.answers.specs.declared.Refusal.TheVariants as why
-use Rattle.answers.specs.declared.Turn.{Turn}
-use Rattle.answers.specs.declared.Turn.TheVariants.{Refused, Go}
+use Rattle.causes.specs.declared.Refusal.TheVariants as why
 use Rattle.answers.specs.Answers.{ends, seating, finish_at, finishes, turned, refuse, refused, said, quiet}
 use Rattle.answers.proofs.Laws.{free-record, unchanged-ends}
 use Rattle.calls.specs.Calls.{frame_turn, frame_step, receives}
@@ -27,25 +23,26 @@ use Rattle.call_laws.proofs.Good.{entered-sound, frame-entered}
 use Rattle.call_laws.proofs.Ends.{finish-answer}
 use Rattle.call_laws.proofs.Refuses.{Iff}
 use Rattle.call_laws.proofs.DropStep.{drop-step}
+use Rattle.causes.specs.declared.Refusal.{Refusal}
 
 -- a step that leaves the record as it was found leaves every octet: it is stored in its slot again, or the free record in a free slot, or nowhere
 module _ (t a : List ℕ) (b : Bytes t) (w : sound t ≡ true) (s : Step) where
   stored-again : (k : ℕ) → s.peer ≡ slot (decode_table t) k → encode_table (placed (decode_table t) k s.peer) ≡ t
   stored-again k e = ap (λ (p : Peer). encode_table (placed (decode_table t) k p)) e ∙ placed-again t k b w
 
-  pub same-finish : (f : Found) → s.peer ≡ look_by (decode_table t) f → (finishes t f s a).table ≡ t
+  pub same-finish : (f : Option ℕ) → s.peer ≡ look_by (decode_table t) f → (finishes t f s a).table ≡ t
   unfolding finishes finish_at ends placed seating look_by
-  same-finish (found.At k) e = go s.refused
+  same-finish (Some k) e = go s.refused
     where
-      go : (x : Bool) → (if x then refuse t why.Full else finish_at (found.At k) t s a).table ≡ t
+      go : (x : Bool) → (if x then refuse t why.Full else finish_at (Some k) t s a).table ≡ t
       go true = refl
       go false = stored-again k e
-  same-finish found.Nothing e = go s.refused (free_slot (decode_table t)) refl
+  same-finish None e = go s.refused (free_slot (decode_table t)) refl
     where
-      go : (x : Bool) (g : Found) → free_slot (decode_table t) ≡ g → (if x then refuse t why.Full else finish_at g t s a).table ≡ t
+      go : (x : Bool) (g : Option ℕ) → free_slot (decode_table t) ≡ g → (if x then refuse t why.Full else finish_at g t s a).table ≡ t
       go true g q = refl
-      go false found.Nothing q = unchanged-ends (said s a) t b w
-      go false (found.At k) q = stored-again k (e ∙ sym (free-record t k b w q))
+      go false None q = unchanged-ends (said s a) t b w
+      go false (Some k) q = stored-again k (e ∙ sym (free-record t k b w q))
 
 module _ (t a : List ℕ) (time : ℕ) (frame fresh expected : List ℕ) (verdict : ℕ) where
   -- the places are those where the ladders name Drop
@@ -54,11 +51,11 @@ module _ (t a : List ℕ) (time : ℕ) (frame fresh expected : List ℕ) (verdic
   dropped-exactly = record { to = drop_named _ _ _ _; from = named-drop _ _ _ _ }
 
   module _ (b : Bytes t) (d : FrameDrops t a time frame fresh expected verdict) where
-    turn-unchanged : (w : Turn) → frame_turn (entry t a) t frame fresh expected verdict ≡ w
+    turn-unchanged : (w : Result (Option ℕ) Refusal) → frame_turn (entry t a) t frame fresh expected verdict ≡ w
         → Unchanged t a (turned w (λ f. frame_step (decode_table t) f a time frame fresh expected verdict) t a)
     unfolding turned refused answering said quiet
-    turn-unchanged (Refused c) e = record { table = refl; answer = λ q. let z : ◌≡◌ {A = ℕ} 0 1 = cc in absurd (omega arith) }
-    turn-unchanged (Go f) e =
+    turn-unchanged (Err c) e = record { table = refl; answer = λ q. let z : ◌≡◌ {A = ℕ} 0 1 = cc in absurd (omega arith) }
+    turn-unchanged (Ok f) e =
         let E = (frame-entered t a frame fresh expected verdict (entry t a) f refl e).0 in
         let q = drop-step t a time frame fresh expected verdict b d f E in
         record {

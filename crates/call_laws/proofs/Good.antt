@@ -8,10 +8,8 @@ use lib.Dec.{eqb, ltb, lit<}
 use lib.ListN.{length, drop, get_or, replicate, length-replicate, length-append}
 use lib.Seq.{drop_at, get_or-take}
 use borrow.Author.Tests.{eqb-true, eqb-false, eq-eqb, not-true, not-false}
-use Rattle.std.specs.Prelude.{if◌then◌else◌}
+use Rattle.std.specs.Prelude.{if◌then◌else◌, Option, Some, None, Result, Ok, Err}
 use Rattle.octets.specs.Octets.{Bytes, all_zero, part}
-use Rattle.octets.specs.declared.Found.{Found}
-use Rattle.octets.specs.declared.Found.TheVariants as found
 use Rattle.octets.proofs.Laws.{length_part, bytes-part, bytes-append}
 use Rattle.octets.proofs.Scan.{clash, and_left, and_right, and_both, first-at}
 use Rattle.octets.proofs.Tests.{zero-zeros, same-address-refl}
@@ -27,9 +25,7 @@ use Rattle.record.specs.Layout.{form_in, width_in, groups_of, no_peer, decode_he
 use Rattle.soundness.specs.Soundness.{usable, high_sync, commit_ok}
 use Rattle.soundness.proofs.Laws.{Groups, SettingsForm, header-form, settings-form, header-limit, header-high, header-groups, header-width, header-count, listed-known, groups-length}
 use Rattle.table.specs.Table.{Table, decode_table, slot, slots, belongs, finds, look_by, look, sound, entry, found_entry}
-use Rattle.table.specs.declared.Entry.{Entry}
-use Rattle.table.specs.declared.Entry.TheVariants as entry-is
-use Rattle.table.proofs.Laws.{entry_at, entry_absent, found_below, sound-header, sound-peer, sound-whole, peers-held, none-holds}
+use Rattle.table.proofs.Laws.{entry-found, found_below, sound-header, sound-peer, sound-whole, peers-held, none-holds}
 use Rattle.table.proofs.Fit.{fit-slot, fit-decoded}
 use Rattle.table.proofs.Kept.{sound-form, found-only}
 use Rattle.rules.specs.Book.{◌is◌, has_run, Step, t0_due, t1_due, expired}
@@ -39,10 +35,8 @@ use Rattle.message.specs.View.{view_of, view, stored_token, commit_in, message}
 use Rattle.rule_laws.proofs.Keeps.{Place, Lists, Stock, stock-form, Heard, Kept, Keeps, kept_free, run-used, link-used, place_of}
 use Rattle.rule_laws.proofs.Sound.{Handed, frame-keeps, begin-keeps, expire-keeps}
 use Rattle.rule_laws.proofs.Slots.{start-refused, frame-unseated}
-use Rattle.answers.specs.declared.Refusal.{Refusal}
-use Rattle.answers.specs.declared.Refusal.TheVariants as why
-use Rattle.answers.specs.declared.Turn.{Turn}
-use Rattle.answers.specs.declared.Turn.TheVariants.{Refused, Go}
+use Rattle.causes.specs.declared.Refusal.{Refusal}
+use Rattle.causes.specs.declared.Refusal.TheVariants as why
 use Rattle.answers.specs.Answers.{seating}
 use Rattle.answers.proofs.Laws.{Entered, old, new, clashed}
 use Rattle.answers.proofs.Theorems.{Good, found-address}
@@ -105,44 +99,44 @@ module _ (t : List ℕ) (s : sound t ≡ true) where
 
 -- ---- what a call that goes on knows
 
-pub entered-sound : (t a : List ℕ) (f : Found) → Entered t a f → sound t ≡ true
-entered-sound t a f (old {k} e) = (entry_at t a k e).0
-entered-sound t a f (new e) = (entry_absent t a e).0
+pub entered-sound : (t a : List ℕ) (f : Option ℕ) → Entered t a f → sound t ≡ true
+entered-sound t a f (old {k} e) = (entry-found t a (Some k) e).0
+entered-sound t a f (new e) = (entry-found t a None e).0
 
-pub entered-usable : (t a : List ℕ) (f : Found) → Entered t a f → usable (own_in t) a ≡ true
-entered-usable t a f (old {k} e) = (entry_at t a k e).1.0
-entered-usable t a f (new e) = (entry_absent t a e).1.0
+pub entered-usable : (t a : List ℕ) (f : Option ℕ) → Entered t a f → usable (own_in t) a ≡ true
+entered-usable t a f (old {k} e) = (entry-found t a (Some k) e).1.0
+entered-usable t a f (new e) = (entry-found t a None e).1.0
 
 module _ (t a : List ℕ) (b : Bytes t) (la : length a ≡ 6) (ba : Bytes a) where
-  pub entered-place : (f : Found) → Entered t a f → Place (own_in t) a
+  pub entered-place : (f : Option ℕ) → Entered t a f → Place (own_in t) a
   entered-place f e = record { six = la; bytes = ba; usable = entered-usable t a f e }
 
   -- the record that was found is the address's, or a free one
-  pub entered-kept : (f : Found) → Entered t a f → Kept (own_in t) (groups_in t) (high_in t) a (look_by (decode_table t) f)
+  pub entered-kept : (f : Option ℕ) → Entered t a f → Kept (own_in t) (groups_in t) (high_in t) a (look_by (decode_table t) f)
   unfolding look_by
   entered-kept f (old {k} e) =
       let x = found-address t a k b la ba e in
-      let w = entry_at t a k e in
+      let w = entry-found t a (Some k) e in
       subst (λ (c : List ℕ). Kept (own_in t) (groups_in t) (high_in t) c (slot (decode_table t) k)) x.1 (slot_kept t w.0 b k (found_below (decode_table t) a k w.1.1).0)
   entered-kept f (new e) = kept_free (own_in t) (groups_in t) (high_in t) a
 
 -- and is what the address finds
-pub entered-look : (t a : List ℕ) (f : Found) → Entered t a f → look_by (decode_table t) f ≡ look (decode_table t) a
+pub entered-look : (t a : List ℕ) (f : Option ℕ) → Entered t a f → look_by (decode_table t) f ≡ look (decode_table t) a
 unfolding look
-entered-look t a f (old {k} e) = ap (look_by (decode_table t)) (sym (entry_at t a k e).1.1)
-entered-look t a f (new e) = ap (look_by (decode_table t)) (sym (entry_absent t a e).1.1)
+entered-look t a f (old {k} e) = ap (look_by (decode_table t)) (sym (entry-found t a (Some k) e).1.1)
+entered-look t a f (new e) = ap (look_by (decode_table t)) (sym (entry-found t a None e).1.1)
 
 -- a step that keeps the form is good
-pub good_of : (t a : List ℕ) (f : Found) (s : Step) → Entered t a f → Keeps (own_in t) (groups_in t) (high_in t) a s → (seating (decode_table t) f ≡ found.Nothing → s.refused ≡ false → s.peer ≡ no_peer)
+pub good_of : (t a : List ℕ) (f : Option ℕ) (s : Step) → Entered t a f → Keeps (own_in t) (groups_in t) (high_in t) a s → (seating (decode_table t) f ≡ None → s.refused ≡ false → s.peer ≡ no_peer)
     → Good t a f s
 good_of t a f s e k n =
     record { came = e; fits = k.kept.fits; form = k.kept.form; own = λ u. let z : s.peer.used ≡ 1 = eqb-true _ _ u in k.kept.place (λ q. omega arith); stays = n }
 
 -- without a slot the record is the free one, and the rules are told so
-pub unseated : (T : Table) (f : Found) → seating T f ≡ found.Nothing → (look_by T f ≡ no_peer) × ((terms_of T f).full ≡ true)
+pub unseated : (T : Table) (f : Option ℕ) → seating T f ≡ None → (look_by T f ≡ no_peer) × ((terms_of T f).full ≡ true)
 unfolding seating look_by full
-unseated T (found.At k) e = let z : ◌≡◌ {A = ℕ} 0 1 = cc in absurd (omega arith)
-unseated T found.Nothing e = (refl, rw e refl)
+unseated T (Some k) e = let z : ◌≡◌ {A = ℕ} 0 1 = cc in absurd (omega arith)
+unseated T None e = (refl, rw e refl)
 
 -- ---- the stock
 
@@ -187,20 +181,20 @@ module _ (gs frame : List ℕ) (b : Bytes frame) where
   held : (g : ℕ) → group_of frame ≡ g → g < 65536
   held g e = subst (λ (x : ℕ). x < 65536) e (field_fits frame 6 b)
 
-  viewed_by : (B : Body) → read_body gs frame ≡ B → Viewed gs frame (view_of B)
+  viewed_by : (B : Option Body) → read_body gs frame ≡ B → Viewed gs frame (view_of B)
   unfolding token_of
-  viewed_by (body.Commit g n) e =
+  viewed_by (Some (body.Commit g n)) e =
       let w = commit-shape gs frame g n e in
       record { group = held g w.group; counter = lit< tt; short = w.token; token = length_part frame 8 n (omega (arith, w.total)); offer = λ q. (w.supported, w.total) }
-  viewed_by (body.Unsupported g) e = bare _ (held g (other-group-shape gs frame g e).group) (lit< tt) refl refl
-  viewed_by (body.TokenRequest g n) e =
+  viewed_by (Some (body.Unsupported g)) e = bare _ (held g (other-group-shape gs frame g e).group) (lit< tt) refl refl
+  viewed_by (Some (body.TokenRequest g n)) e =
       let w = token-request-shape gs frame g n e in
       record { group = held g w.group; counter = lit< tt; short = w.token; token = length_part frame 8 n (omega (arith, w.total)); offer = λ q. absurd (clash q refl) }
-  viewed_by (body.GroupRefusal g) e = bare _ (held g (group-refusal-shape gs frame g e).group) (lit< tt) refl refl
-  viewed_by (body.OtherCommit s) e = bare _ (lit< tt) (lit< tt) refl refl
-  viewed_by (body.Confirm n) e = bare _ (lit< tt) (held n (confirm-shape gs frame n e).counter) refl refl
-  viewed_by (body.OtherConfirm s) e = bare _ (lit< tt) (lit< tt) refl refl
-  viewed_by body.Malformed e = bare _ (lit< tt) (lit< tt) refl refl
+  viewed_by (Some (body.GroupRefusal g)) e = bare _ (held g (group-refusal-shape gs frame g e).group) (lit< tt) refl refl
+  viewed_by (Some (body.OtherCommit s)) e = bare _ (lit< tt) (lit< tt) refl refl
+  viewed_by (Some (body.Confirm n)) e = bare _ (lit< tt) (held n (confirm-shape gs frame n e).counter) refl refl
+  viewed_by (Some (body.OtherConfirm s)) e = bare _ (lit< tt) (lit< tt) refl refl
+  viewed_by None e = bare _ (lit< tt) (lit< tt) refl refl
 
   pub viewed : Viewed gs frame (view gs frame)
   unfolding view
@@ -263,57 +257,57 @@ view-heard gs frame b =
 
 -- ---- who goes on
 
-pub go_same : {f g : Found} → Go f ≡ Go g → f ≡ g
+pub go_same : {f g : Option ℕ} → Ok f ≡ Ok g → f ≡ g
 go_same e = cc
 
 -- a refusal's branch was not taken
-pub past : (b : Bool) (c : Refusal) (x : Turn) (f : Found) → (if b then Refused c else x) ≡ Go f → (b ≡ false) × (x ≡ Go f)
+pub past : (b : Bool) (c : Refusal) (x : Result (Option ℕ) Refusal) (f : Option ℕ) → (if b then Err c else x) ≡ Ok f → (b ≡ false) × (x ≡ Ok f)
 past true c x f e = clashed e
 past false c x f e = (refl, e)
 
-pub admit-start : (T : Table) (g : Found) (fresh : List ℕ) (f : Found) → admit_start T g fresh ≡ Go f
+pub admit-start : (T : Table) (g : Option ℕ) (fresh : List ℕ) (f : Option ℕ) → admit_start T g fresh ≡ Ok f
     → (g ≡ f) × (fresh_ok (width_in T.header) (groups_of T.header) fresh ≡ true) × ((look_by T f).run.state ≡ 0)
 unfolding admit_start
 admit-start T g fresh f e =
-    let a = past (not (fresh_ok (width_in T.header) (groups_of T.header) fresh)) why.Fresh (if has_run (look_by T g) then Refused why.Running else Go g) f e in
-    let b = past (has_run (look_by T g)) why.Running (Go g) f a.1 in
-    (go_same b.1, not-false _ a.0, subst (λ (x : Found). (look_by T x).run.state ≡ 0) (go_same b.1) (eqb-true _ _ (not-false _ b.0)))
+    let a = past (not (fresh_ok (width_in T.header) (groups_of T.header) fresh)) why.Fresh (if has_run (look_by T g) then Err why.Running else Ok g) f e in
+    let b = past (has_run (look_by T g)) why.Running (Ok g) f a.1 in
+    (go_same b.1, not-false _ a.0, subst (λ (x : Option ℕ). (look_by T x).run.state ≡ 0) (go_same b.1) (eqb-true _ _ (not-false _ b.0)))
 
-pub admit-frame : (T : Table) (g : Found) (frame fresh expected : List ℕ) (verdict : ℕ) (f : Found) → admit_frame T g frame fresh expected verdict ≡ Go f
+pub admit-frame : (T : Table) (g : Option ℕ) (frame fresh expected : List ℕ) (verdict : ℕ) (f : Option ℕ) → admit_frame T g frame fresh expected verdict ≡ Ok f
     → (g ≡ f) × (fresh_ok (width_in T.header) (groups_of T.header) fresh ≡ true)
 unfolding admit_frame
 admit-frame T g frame fresh expected verdict f e =
     let a = past (not (fresh_ok (width_in T.header) (groups_of T.header) fresh)) why.Fresh _ f e in
     let b = past (not (eqb (length expected) 32)) why.Token _ f a.1 in
     let c = past (ltb 1 verdict) why.Verdict _ f b.1 in
-    let d = past ((view (groups_of T.header) frame).sequence is 0) why.Body (Go g) f c.1 in
+    let d = past ((view (groups_of T.header) frame).sequence is 0) why.Body (Ok g) f c.1 in
     (go_same d.1, not-false _ a.0)
 
 module _ (t a : List ℕ) where
-  pub start-entered : (fresh : List ℕ) (E : Entry) (f : Found) → entry t a ≡ E → start_turn E t fresh ≡ Go f
+  pub start-entered : (fresh : List ℕ) (E : Result (Option ℕ) Refusal) (f : Option ℕ) → entry t a ≡ E → start_turn E t fresh ≡ Ok f
       → Entered t a f × (fresh_ok (width_in (decode_table t).header) (groups_in t) fresh ≡ true) × ((look_by (decode_table t) f).run.state ≡ 0)
   unfolding start_turn
-  start-entered fresh entry-is.Unsound f q e = clashed e
-  start-entered fresh entry-is.Unusable f q e = clashed e
-  start-entered fresh entry-is.Absent f q e = let w = admit-start (decode_table t) found.Nothing fresh f e in (subst (Entered t a) w.0 (new q), w.1, w.2)
-  start-entered fresh (entry-is.At k) f q e = let w = admit-start (decode_table t) (found.At k) fresh f e in (subst (Entered t a) w.0 (old q), w.1, w.2)
+  start-entered fresh (Err why.Unsound) f q e = clashed e
+  start-entered fresh (Err why.Address) f q e = clashed e
+  start-entered fresh (Ok None) f q e = let w = admit-start (decode_table t) None fresh f e in (subst (Entered t a) w.0 (new q), w.1, w.2)
+  start-entered fresh (Ok (Some k)) f q e = let w = admit-start (decode_table t) (Some k) fresh f e in (subst (Entered t a) w.0 (old q), w.1, w.2)
 
-  pub kill-entered : (E : Entry) (f : Found) → entry t a ≡ E → kill_turn E ≡ Go f → Entered t a f
+  pub kill-entered : (E : Result (Option ℕ) Refusal) (f : Option ℕ) → entry t a ≡ E → kill_turn E ≡ Ok f → Entered t a f
   unfolding kill_turn
-  kill-entered entry-is.Unsound f q e = clashed e
-  kill-entered entry-is.Unusable f q e = clashed e
-  kill-entered entry-is.Absent f q e = clashed e
-  kill-entered (entry-is.At k) f q e = subst (Entered t a) (go_same e) (old q)
+  kill-entered (Err why.Unsound) f q e = clashed e
+  kill-entered (Err why.Address) f q e = clashed e
+  kill-entered (Ok None) f q e = clashed e
+  kill-entered (Ok (Some k)) f q e = subst (Entered t a) (go_same e) (old q)
 
-  pub frame-entered : (frame fresh expected : List ℕ) (verdict : ℕ) (E : Entry) (f : Found) → entry t a ≡ E → frame_turn E t frame fresh expected verdict ≡ Go f
+  pub frame-entered : (frame fresh expected : List ℕ) (verdict : ℕ) (E : Result (Option ℕ) Refusal) (f : Option ℕ) → entry t a ≡ E → frame_turn E t frame fresh expected verdict ≡ Ok f
       → Entered t a f × (fresh_ok (width_in (decode_table t).header) (groups_in t) fresh ≡ true)
   unfolding frame_turn
-  frame-entered frame fresh expected verdict entry-is.Unsound f q e = clashed e
-  frame-entered frame fresh expected verdict entry-is.Unusable f q e = clashed e
-  frame-entered frame fresh expected verdict entry-is.Absent f q e =
-      let w = admit-frame (decode_table t) found.Nothing frame fresh expected verdict f e in (subst (Entered t a) w.0 (new q), w.1)
-  frame-entered frame fresh expected verdict (entry-is.At k) f q e =
-      let w = admit-frame (decode_table t) (found.At k) frame fresh expected verdict f e in (subst (Entered t a) w.0 (old q), w.1)
+  frame-entered frame fresh expected verdict (Err why.Unsound) f q e = clashed e
+  frame-entered frame fresh expected verdict (Err why.Address) f q e = clashed e
+  frame-entered frame fresh expected verdict (Ok None) f q e =
+      let w = admit-frame (decode_table t) None frame fresh expected verdict f e in (subst (Entered t a) w.0 (new q), w.1)
+  frame-entered frame fresh expected verdict (Ok (Some k)) f q e =
+      let w = admit-frame (decode_table t) (Some k) frame fresh expected verdict f e in (subst (Entered t a) w.0 (old q), w.1)
 
 -- ---- Good for every call
 
@@ -321,8 +315,8 @@ pub no-run : (p : Peer) → p.run.state ≡ 0 → NoRun p
 no-run p e = record { not_committed = λ q. omega arith; not_confirmed = λ q. omega arith }
 
 -- Start
-pub initiate_good : (t a : List ℕ) (time : ℕ) (fresh : List ℕ) (f : Found) → Bytes t → length a ≡ 6 → Bytes a → time < 2 ^ 32 → Bytes fresh
-    → start_turn (entry t a) t fresh ≡ Go f → Good t a f (start_step (decode_table t) f a time fresh)
+pub initiate_good : (t a : List ℕ) (time : ℕ) (fresh : List ℕ) (f : Option ℕ) → Bytes t → length a ≡ 6 → Bytes a → time < 2 ^ 32 → Bytes fresh
+    → start_turn (entry t a) t fresh ≡ Ok f → Good t a f (start_step (decode_table t) f a time fresh)
 unfolding start_step
 initiate_good t a time fresh f b la ba ht bf e =
     let w = start-entered t a fresh (entry t a) f refl e in
@@ -335,14 +329,14 @@ initiate_good t a time fresh f b la ba ht bf e =
     (λ v n. absurd (clash (start-refused T C (look_by (decode_table t) f) ∙ (unseated (decode_table t) f v).1) n))
 
 -- Kill
-pub kill_good : (t a : List ℕ) (f : Found) → Bytes t → length a ≡ 6 → Bytes a → kill_turn (entry t a) ≡ Go f → Good t a f kill_step
+pub kill_good : (t a : List ℕ) (f : Option ℕ) → Bytes t → length a ≡ 6 → Bytes a → kill_turn (entry t a) ≡ Ok f → Good t a f kill_step
 unfolding kill_step
 kill_good t a f b la ba e = good_of t a f _ (kill-entered t a (entry t a) f refl e) (record { kept = kept_free (own_in t) (groups_in t) (high_in t) a }) (λ v n. refl)
 
 -- Frame received
-pub receive_good : (t a : List ℕ) (time : ℕ) (frame fresh expected : List ℕ) (verdict : ℕ) (f : Found) → Bytes t → length a ≡ 6 → Bytes a → time < 2 ^ 32
+pub receive_good : (t a : List ℕ) (time : ℕ) (frame fresh expected : List ℕ) (verdict : ℕ) (f : Option ℕ) → Bytes t → length a ≡ 6 → Bytes a → time < 2 ^ 32
     → Bytes frame → Bytes fresh → Bytes expected → verdict < 2 ^ 8
-    → frame_turn (entry t a) t frame fresh expected verdict ≡ Go f → Good t a f (frame_step (decode_table t) f a time frame fresh expected verdict)
+    → frame_turn (entry t a) t frame fresh expected verdict ≡ Ok f → Good t a f (frame_step (decode_table t) f a time frame fresh expected verdict)
 unfolding frame_step message
 receive_good t a time frame fresh expected verdict f b la ba ht br bf be hv e =
     let w = frame-entered t a frame fresh expected verdict (entry t a) f refl e in
@@ -363,7 +357,7 @@ receive_good t a time frame fresh expected verdict f b la ba ht br bf be hv e =
     (λ v n. let u = unseated (decode_table t) f v in frame-unseated T C p m u.0 u.1 n)
 
 -- Clock: the record that is due is in use
-module _ (t : List ℕ) (time k : ℕ) (b : Bytes t) (s : sound t ≡ true) (e : due_slot (decode_table t) time ≡ found.At k) where
+module _ (t : List ℕ) (time k : ℕ) (b : Bytes t) (s : sound t ≡ true) (e : due_slot (decode_table t) time ≡ Some k) where
   pub due_below : (k < slots (decode_table t)) × (expired (slot (decode_table t) k) time ≡ true)
   unfolding due_slot
   due_below = first-at (λ j. expired (slot (decode_table t) j) time) (slots (decode_table t)) k e
@@ -386,25 +380,25 @@ module _ (t : List ℕ) (time k : ℕ) (b : Bytes t) (s : sound t ≡ true) (e :
   unfolding belongs
   due-holds = and_both _ _ (eq-eqb _ _ due-used) (same-address-refl (slot (decode_table t) k).address)
 
-  due-found : (g : Found) → finds (decode_table t) (slot (decode_table t) k).address ≡ g → g ≡ found.At k
-  due-found (found.At j) q = ap found.At (sym (found-only (decode_table t) _ j k (sound-form t s) q due_below.0 due-holds))
-  due-found found.Nothing q = absurd (clash due-holds (none-holds (decode_table t) _ q k due_below.0))
+  due-found : (g : Option ℕ) → finds (decode_table t) (slot (decode_table t) k).address ≡ g → g ≡ Some k
+  due-found (Some j) q = ap Some (sym (found-only (decode_table t) _ j k (sound-form t s) q due_below.0 due-holds))
+  due-found None q = absurd (clash due-holds (none-holds (decode_table t) _ q k due_below.0))
 
   pub due-place : Place (own_in t) (slot (decode_table t) k).address
   due-place = place_of (own_in t) (groups_in t) (high_in t) _ _ due-kept due-used
 
-  pub due-entry : entry t (slot (decode_table t) k).address ≡ entry-is.At k
+  pub due-entry : entry t (slot (decode_table t) k).address ≡ Ok (Some k)
   unfolding entry found_entry
   due-entry = let q = due-found (finds (decode_table t) (slot (decode_table t) k).address) refl in rw (s, due-place.usable, q)
 
   pub expire_address : (length (slot (decode_table t) k).address ≡ 6) × Bytes (slot (decode_table t) k).address
   expire_address = (due-kept.fits.address, due-kept.fits.bytes)
 
-pub expire_good : (t : List ℕ) (time k : ℕ) → Bytes t → time < 2 ^ 32 → sound t ≡ true → due_slot (decode_table t) time ≡ found.At k
-    → Good t (slot (decode_table t) k).address (found.At k) (clock_step (decode_table t) k time)
+pub expire_good : (t : List ℕ) (time k : ℕ) → Bytes t → time < 2 ^ 32 → sound t ≡ true → due_slot (decode_table t) time ≡ Some k
+    → Good t (slot (decode_table t) k).address (Some k) (clock_step (decode_table t) k time)
 unfolding clock_step seating
 expire_good t time k b ht s e =
-    good_of t (slot (decode_table t) k).address (found.At k) _ (old (due-entry t time k b s e))
-    (expire-keeps (terms_of (decode_table t) (found.At k)) (brings (slot (decode_table t) k).address (clock_of (decode_table t).header time) [] no_token false)
+    good_of t (slot (decode_table t) k).address (Some k) _ (old (due-entry t time k b s e))
+    (expire-keeps (terms_of (decode_table t) (Some k)) (brings (slot (decode_table t) k).address (clock_of (decode_table t).header time) [] no_token false)
     (slot (decode_table t) k) (due-place t time k b s e) (sound-lists t s) (first-listed t s).0 (high-low t s) (due-kept t time k b s e))
     (λ v n. let z : ◌≡◌ {A = ℕ} 0 1 = cc in absurd (omega arith))

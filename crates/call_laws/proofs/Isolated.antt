@@ -7,11 +7,8 @@ use native.Mathlib.Omega.{arith}
 use lib.Dec.{eqb, ltb}
 use lib.ListN.{length}
 use borrow.Author.Tests.{eqb-true}
-use Rattle.std.specs.Prelude.{if◌then◌else◌}
-use Rattle.octets.specs.Scan.{is_nothing}
+use Rattle.std.specs.Prelude.{if◌then◌else◌, Option, Some, None, Result, Ok, Err, is_none}
 use Rattle.octets.specs.Octets.{Bytes}
-use Rattle.octets.specs.declared.Found.{Found}
-use Rattle.octets.specs.declared.Found.TheVariants as found
 use Rattle.octets.proofs.Scan.{clash, and_left}
 use Rattle.groups.specs.Groups.{fresh_ok}
 use Rattle.record.specs.declared.Peer.{Peer}
@@ -20,17 +17,13 @@ use Rattle.record.specs.declared.Form.{Form}
 use Rattle.record.specs.Layout.{width_in, groups_of, no_peer, period_of, limit_of}
 use Rattle.soundness.specs.Soundness.{usable}
 use Rattle.table.specs.Table.{Table, decode_table, slot, belongs, finds, look_by, look, sound, entry}
-use Rattle.table.specs.declared.Entry.{Entry}
-use Rattle.table.specs.declared.Entry.TheVariants as entry-is
 use Rattle.table.proofs.Laws.{found_below}
 use Rattle.initial.specs.Initial.{slots_for, initial_ok, initial_table}
 use Rattle.rules.specs.declared.Act.TheVariants.{ConfirmAgain, RepeatCommit, EndLink}
 use Rattle.rules.specs.Book.{◌is◌, has_run, holds, t0_due, silence, Terms, Call, Step, clock_act, perform, on_clock}
 use Rattle.message.specs.View.{view}
-use Rattle.answers.specs.declared.Refusal.{Refusal}
-use Rattle.answers.specs.declared.Refusal.TheVariants as why
-use Rattle.answers.specs.declared.Turn.{Turn}
-use Rattle.answers.specs.declared.Turn.TheVariants.{Refused, Go}
+use Rattle.causes.specs.declared.Refusal.{Refusal}
+use Rattle.causes.specs.declared.Refusal.TheVariants as why
 use Rattle.answers.specs.Answers.{Left, ends, turned, refuse, refused, said, quiet}
 use Rattle.answers.proofs.Laws.{clashed}
 use Rattle.answers.proofs.Ending.{Turned, denied, done, turn-ends}
@@ -42,20 +35,20 @@ use Rattle.call_laws.proofs.Ends.{Came, came, unsound, unusable, lacks, has, fin
 
 -- ---- both tables come to the same
 
-pub data Met (t u a : List ℕ) : Entry → Entry → Type 0 where
-  neither : Met t u a entry-is.Unusable entry-is.Unusable
-  lack_both : Met t u a entry-is.Absent entry-is.Absent
-  have_both : {k j : ℕ} → slot (decode_table t) k ≡ slot (decode_table u) j → Met t u a (entry-is.At k) (entry-is.At j)
+pub data Met (t u a : List ℕ) : Result (Option ℕ) Refusal → Result (Option ℕ) Refusal → Type 0 where
+  neither : Met t u a (Err why.Address) (Err why.Address)
+  lack_both : Met t u a (Ok None) (Ok None)
+  have_both : {k j : ℕ} → slot (decode_table t) k ≡ slot (decode_table u) j → Met t u a (Ok (Some k)) (Ok (Some j))
 
-lacking : (T : Table) (a : List ℕ) → finds T a ≡ found.Nothing → (look T a).used ≡ 0
+lacking : (T : Table) (a : List ℕ) → finds T a ≡ None → (look T a).used ≡ 0
 unfolding look look_by no_peer
 lacking T a e = rw e
 
-having : (T : Table) (a : List ℕ) (k : ℕ) → finds T a ≡ found.At k → (look T a).used ≡ 1
+having : (T : Table) (a : List ℕ) (k : ℕ) → finds T a ≡ Some k → (look T a).used ≡ 1
 unfolding look look_by belongs
 having T a k e = rw e (eqb-true _ _ (and_left _ _ (found_below T a k e).1))
 
-slot_of : (T : Table) (a : List ℕ) (k : ℕ) → finds T a ≡ found.At k → slot T k ≡ look T a
+slot_of : (T : Table) (a : List ℕ) (k : ℕ) → finds T a ≡ Some k → slot T k ≡ look T a
 unfolding look look_by
 slot_of T a k e = ap (look_by T) (sym e)
 
@@ -72,10 +65,10 @@ module _ (t u a : List ℕ) (S : SameFor t u a) where
   same-usable : usable (decode_table t).header.own a ≡ usable (decode_table u).header.own a
   same-usable = ap (λ (o : List ℕ). usable o a) S.own
 
-  both : (k j : ℕ) → finds (decode_table t) a ≡ found.At k → finds (decode_table u) a ≡ found.At j → Met t u a (entry-is.At k) (entry-is.At j)
+  both : (k j : ℕ) → finds (decode_table t) a ≡ Some k → finds (decode_table u) a ≡ Some j → Met t u a (Ok (Some k)) (Ok (Some j))
   both k j f h = have_both (slot_of (decode_table t) a k f ∙ S.peer ∙ sym (slot_of (decode_table u) a j h))
 
-  met : (E F : Entry) → Came t a E → Came u a F → Met t u a E F
+  met : (E F : Result (Option ℕ) Refusal) → Came t a E → Came u a F → Met t u a E F
   met E F (unsound s) d = absurd (clash S.sound₁ s)
   met E F (unusable s q) (unsound s₁) = absurd (clash S.sound₂ s₁)
   met E F (lacks s q f) (unsound s₁) = absurd (clash S.sound₂ s₁)
@@ -92,31 +85,31 @@ module _ (t u a : List ℕ) (S : SameFor t u a) where
 
 -- ---- turns that are alike
 
-pub data Paired (g h : Found → Step) : Turn → Turn → Type 0 where
-  both_refuse : {c : Refusal} → Paired g h (Refused c) (Refused c)
-  both_go : {f₁ k₁ : Found} → g f₁ ≡ h k₁ → Paired g h (Go f₁) (Go k₁)
+pub data Paired (g h : Option ℕ → Step) : Result (Option ℕ) Refusal → Result (Option ℕ) Refusal → Type 0 where
+  both_refuse : {c : Refusal} → Paired g h (Err c) (Err c)
+  both_go : {f₁ k₁ : Option ℕ} → g f₁ ≡ h k₁ → Paired g h (Ok f₁) (Ok k₁)
 
-paired-if : (g h : Found → Step) (b : Bool) (c : Refusal) (w x : Turn) → Paired g h w x → Paired g h (if b then Refused c else w) (if b then Refused c else x)
+paired-if : (g h : Option ℕ → Step) (b : Bool) (c : Refusal) (w x : Result (Option ℕ) Refusal) → Paired g h w x → Paired g h (if b then Err c else w) (if b then Err c else x)
 paired-if g h true c w x p = both_refuse
 paired-if g h false c w x p = p
 
-paired-go : (g h : Found → Step) (w x : Turn) (f k : Found) → Paired g h w x → w ≡ Go f → x ≡ Go k → g f ≡ h k
+paired-go : (g h : Option ℕ → Step) (w x : Result (Option ℕ) Refusal) (f k : Option ℕ) → Paired g h w x → w ≡ Ok f → x ≡ Ok k → g f ≡ h k
 paired-go g h w x f k both_refuse p q = clashed p
 paired-go g h w x f k (both_go {f₁} {k₁} e) p q =
     let i : f₁ ≡ f = cc in
     let j : k₁ ≡ k = cc in
     ap g (sym i) ∙ e ∙ ap h j
 
-module _ (g h : Found → Step) (t u a : List ℕ) where
+module _ (g h : Option ℕ → Step) (t u a : List ℕ) where
   -- THE SAME ANSWER
-  paired-answer : (w x : Turn) → Paired g h w x → (turned w g t a).answer ≡ (turned x h u a).answer
+  paired-answer : (w x : Result (Option ℕ) Refusal) → Paired g h w x → (turned w g t a).answer ≡ (turned x h u a).answer
   unfolding turned
   paired-answer w x (both_refuse {c}) = refl
   paired-answer w x (both_go {f₁} {k₁} e) =
       finish-answer t f₁ (g f₁) a ∙ ap (λ (s : Step). if s.refused then refused why.Full else said s a) e ∙ sym (finish-answer u k₁ (h k₁) a)
 
 -- THE SAME RECORD
-module _ (g h : Found → Step) (t u a : List ℕ) (w x : Turn) (p : Paired g h w x) (same : (turned w g t a).answer ≡ (turned x h u a).answer) (l : look (decode_table t) a ≡ look (decode_table u) a) where
+module _ (g h : Option ℕ → Step) (t u a : List ℕ) (w x : Result (Option ℕ) Refusal) (p : Paired g h w x) (same : (turned w g t a).answer ≡ (turned x h u a).answer) (l : look (decode_table t) a ≡ look (decode_table u) a) where
   paired-record : Turned w g t a → Turned x h u a → look (decode_table (turned w g t a).table) a ≡ look (decode_table (turned x h u a).table) a
   paired-record (denied c e) (denied d q) =
       ap (λ (y : Left). look (decode_table y.table) a) e ∙ l ∙ sym (ap (λ (y : Left). look (decode_table y.table) a) q)
@@ -129,14 +122,14 @@ pub record Isolated (a : List ℕ) (l m : Left) : Type 0 where
   pub answer : l.answer ≡ m.answer
   pub peer : look (decode_table l.table) a ≡ look (decode_table m.table) a
 
-isolated : (g h : Found → Step) (t u a : List ℕ) (w x : Turn) → SameFor t u a → Paired g h w x → Turned w g t a → Turned x h u a → Isolated a (turned w g t a) (turned x h u a)
+isolated : (g h : Option ℕ → Step) (t u a : List ℕ) (w x : Result (Option ℕ) Refusal) → SameFor t u a → Paired g h w x → Turned w g t a → Turned x h u a → Isolated a (turned w g t a) (turned x h u a)
 isolated g h t u a w x S p m n =
     let e = paired-answer g h t u a w x p in
     record { answer = e; peer = paired-record g h t u a w x p e S.peer m n }
 
 -- ---- what the rules are told is the same
 
-terms-same : (t u a : List ℕ) → Alike t u a → (f k : Found) → is_nothing f ≡ is_nothing k → terms_of (decode_table t) f ≡ terms_of (decode_table u) k
+terms-same : (t u a : List ℕ) → Alike t u a → (f k : Option ℕ) → is_none f ≡ is_none k → terms_of (decode_table t) f ≡ terms_of (decode_table u) k
 terms-same t u a A f k n = go _ _ _ _ _ _ _ _ _ _ A.same.own A.same.groups A.crowded n A.full
   where
     go : (o p g h : List ℕ) (c d x y v w : Bool) → o ≡ p → g ≡ h → c ≡ d → x ≡ y → v ≡ w
@@ -145,14 +138,14 @@ terms-same t u a A f k n = go _ _ _ _ _ _ _ _ _ _ A.same.own A.same.groups A.cro
 
 -- ---- Start
 
-admit-start-paired : (g h : Found → Step) (T U : Table) (f k : Found) (fresh : List ℕ) → groups_of T.header ≡ groups_of U.header → width_in T.header ≡ width_in U.header → look_by T f ≡ look_by U k → g f ≡ h k
+admit-start-paired : (g h : Option ℕ → Step) (T U : Table) (f k : Option ℕ) (fresh : List ℕ) → groups_of T.header ≡ groups_of U.header → width_in T.header ≡ width_in U.header → look_by T f ≡ look_by U k → g f ≡ h k
     → Paired g h (admit_start T f fresh) (admit_start U k fresh)
 unfolding admit_start
 admit-start-paired g h T U f k fresh p w q e =
-    rw (p, w, q) (paired-if g h (not (fresh_ok (width_in U.header) (groups_of U.header) fresh)) why.Fresh _ _ (paired-if g h (has_run (look_by U k)) why.Running (Go f) (Go k) (both_go e)))
+    rw (p, w, q) (paired-if g h (not (fresh_ok (width_in U.header) (groups_of U.header) fresh)) why.Fresh _ _ (paired-if g h (has_run (look_by U k)) why.Running (Ok f) (Ok k) (both_go e)))
 
 module _ (t u a : List ℕ) (A : Alike t u a) where
-  start-same : (time : ℕ) (fresh : List ℕ) (f k : Found) → is_nothing f ≡ is_nothing k → look_by (decode_table t) f ≡ look_by (decode_table u) k
+  start-same : (time : ℕ) (fresh : List ℕ) (f k : Option ℕ) → is_none f ≡ is_none k → look_by (decode_table t) f ≡ look_by (decode_table u) k
       → start_step (decode_table t) f a time fresh ≡ start_step (decode_table u) k a time fresh
   unfolding start_step
   start-same time fresh f k n q =
@@ -161,13 +154,13 @@ module _ (t u a : List ℕ) (A : Alike t u a) where
       let w = A.same.width in
       rw (q, e, κ, w)
 
-  start-paired : (time : ℕ) (fresh : List ℕ) (E F : Entry) → Met t u a E F
+  start-paired : (time : ℕ) (fresh : List ℕ) (E F : Result (Option ℕ) Refusal) → Met t u a E F
       → Paired (λ f. start_step (decode_table t) f a time fresh) (λ f. start_step (decode_table u) f a time fresh) (start_turn E t fresh) (start_turn F u fresh)
   unfolding start_turn look_by
   start-paired time fresh E F neither = both_refuse
-  start-paired time fresh E F lack_both = admit-start-paired _ _ (decode_table t) (decode_table u) found.Nothing found.Nothing fresh A.same.groups A.same.width refl (start-same time fresh found.Nothing found.Nothing refl refl)
+  start-paired time fresh E F lack_both = admit-start-paired _ _ (decode_table t) (decode_table u) None None fresh A.same.groups A.same.width refl (start-same time fresh None None refl refl)
   start-paired time fresh E F (have_both {k} {j} q) =
-      admit-start-paired _ _ (decode_table t) (decode_table u) (found.At k) (found.At j) fresh A.same.groups A.same.width q (start-same time fresh (found.At k) (found.At j) refl q)
+      admit-start-paired _ _ (decode_table t) (decode_table u) (Some k) (Some j) fresh A.same.groups A.same.width q (start-same time fresh (Some k) (Some j) refl q)
 
 pub initiate-isolated : (t u a : List ℕ) (time : ℕ) (fresh : List ℕ) → Bytes t → Bytes u → length a ≡ 6 → Bytes a → time < 2 ^ 32 → Bytes fresh → Alike t u a
     → Isolated a (initiates t a time fresh) (initiates u a time fresh)
@@ -179,7 +172,7 @@ initiate-isolated t u a time fresh bt bu la ba ht bf A =
 
 -- ---- Kill
 
-kill-paired : (t u a : List ℕ) (E F : Entry) → Met t u a E F → Paired (λ f. kill_step) (λ f. kill_step) (kill_turn E) (kill_turn F)
+kill-paired : (t u a : List ℕ) (E F : Result (Option ℕ) Refusal) → Met t u a E F → Paired (λ f. kill_step) (λ f. kill_step) (kill_turn E) (kill_turn F)
 unfolding kill_turn
 kill-paired t u a E F neither = both_refuse
 kill-paired t u a E F lack_both = both_refuse
@@ -194,7 +187,7 @@ kill-isolated t u a bt bu la ba S =
 
 -- ---- Frame received
 
-admit-frame-paired : (g h : Found → Step) (T U : Table) (f k : Found) (frame fresh expected : List ℕ) (verdict : ℕ) → groups_of T.header ≡ groups_of U.header → width_in T.header ≡ width_in U.header → g f ≡ h k
+admit-frame-paired : (g h : Option ℕ → Step) (T U : Table) (f k : Option ℕ) (frame fresh expected : List ℕ) (verdict : ℕ) → groups_of T.header ≡ groups_of U.header → width_in T.header ≡ width_in U.header → g f ≡ h k
     → Paired g h (admit_frame T f frame fresh expected verdict) (admit_frame U k frame fresh expected verdict)
 unfolding admit_frame
 admit-frame-paired g h T U f k frame fresh expected verdict p w e =
@@ -202,10 +195,10 @@ admit-frame-paired g h T U f k frame fresh expected verdict p w e =
     (paired-if g h (not (fresh_ok (width_in U.header) (groups_of U.header) fresh)) why.Fresh _ _
     (paired-if g h (not (eqb (length expected) 32)) why.Token _ _
     (paired-if g h (ltb 1 verdict) why.Verdict _ _
-    (paired-if g h ((view (groups_of U.header) frame).sequence is 0) why.Body (Go f) (Go k) (both_go e)))))
+    (paired-if g h ((view (groups_of U.header) frame).sequence is 0) why.Body (Ok f) (Ok k) (both_go e)))))
 
 module _ (t u a : List ℕ) (A : Alike t u a) (time : ℕ) (frame fresh expected : List ℕ) (verdict : ℕ) where
-  frame_same : (f k : Found) → is_nothing f ≡ is_nothing k → look_by (decode_table t) f ≡ look_by (decode_table u) k
+  frame_same : (f k : Option ℕ) → is_none f ≡ is_none k → look_by (decode_table t) f ≡ look_by (decode_table u) k
       → frame_step (decode_table t) f a time frame fresh expected verdict ≡ frame_step (decode_table u) k a time frame fresh expected verdict
   unfolding frame_step
   frame_same f k n q =
@@ -215,17 +208,17 @@ module _ (t u a : List ℕ) (A : Alike t u a) (time : ℕ) (frame fresh expected
       let w = A.same.width in
       rw (q, e, κ, g, w)
 
-  frame-paired : (E F : Entry) → Met t u a E F
+  frame-paired : (E F : Result (Option ℕ) Refusal) → Met t u a E F
       → Paired (λ f. frame_step (decode_table t) f a time frame fresh expected verdict) (λ f. frame_step (decode_table u) f a time frame fresh expected verdict)
       (frame_turn E t frame fresh expected verdict) (frame_turn F u frame fresh expected verdict)
   unfolding frame_turn look_by
   frame-paired E F neither = both_refuse
   frame-paired E F lack_both =
-      admit-frame-paired _ _ (decode_table t) (decode_table u) found.Nothing found.Nothing frame fresh expected verdict A.same.groups A.same.width
-      (frame_same found.Nothing found.Nothing refl refl)
+      admit-frame-paired _ _ (decode_table t) (decode_table u) None None frame fresh expected verdict A.same.groups A.same.width
+      (frame_same None None refl refl)
   frame-paired E F (have_both {k} {j} q) =
-      admit-frame-paired _ _ (decode_table t) (decode_table u) (found.At k) (found.At j) frame fresh expected verdict A.same.groups A.same.width
-      (frame_same (found.At k) (found.At j) refl q)
+      admit-frame-paired _ _ (decode_table t) (decode_table u) (Some k) (Some j) frame fresh expected verdict A.same.groups A.same.width
+      (frame_same (Some k) (Some j) refl q)
 
 pub receive-isolated : (t u a : List ℕ) (time : ℕ) (frame fresh expected : List ℕ) (verdict : ℕ) → Bytes t → Bytes u → length a ≡ 6 → Bytes a → time < 2 ^ 32
     → Bytes frame → Bytes fresh → Bytes expected → verdict < 2 ^ 8 → Alike t u a
@@ -239,7 +232,7 @@ receive-isolated t u a time frame fresh expected verdict bt bu la ba ht br bf be
 -- ---- Clock: given which record it takes, that record and the reading alone
 
 -- of what the table says beside the clock's times, a deadline's act asks nothing
-clock-alone : (T U : Table) (f k : Found) (c : Call) (p : Peer) → on_clock (terms_of T f) c p ≡ on_clock (terms_of U k) c p
+clock-alone : (T U : Table) (f k : Option ℕ) (c : Call) (p : Peer) → on_clock (terms_of T f) c p ≡ on_clock (terms_of U k) c p
 unfolding on_clock clock_act perform
 clock-alone T U f k c p = go (holds (t0_due p c.clock.time)) (p.run.state is 2)
   where
@@ -251,12 +244,12 @@ clock-alone T U f k c p = go (holds (t0_due p c.clock.time)) (p.run.state is 2)
 
 clock-same : (T U : Table) (k j time : ℕ) → clock_of T.header time ≡ clock_of U.header time → slot T k ≡ slot U j → clock_step T k time ≡ clock_step U j time
 unfolding clock_step
-clock-same T U k j time κ q = rw (q, κ) (clock-alone T U (found.At k) (found.At j) _ (slot U j))
+clock-same T U k j time κ q = rw (q, κ) (clock-alone T U (Some k) (Some j) _ (slot U j))
 
 pub expire-isolated : (t u : List ℕ) (time k j : ℕ) → Bytes t → Bytes u → time < 2 ^ 32 → sound t ≡ true → sound u ≡ true
     → period_of (decode_table t).header.settings.period ≡ period_of (decode_table u).header.settings.period
     → limit_of (decode_table t).header.settings.limit ≡ limit_of (decode_table u).header.settings.limit
-    → due_slot (decode_table t) time ≡ found.At k → due_slot (decode_table u) time ≡ found.At j → slot (decode_table t) k ≡ slot (decode_table u) j
+    → due_slot (decode_table t) time ≡ Some k → due_slot (decode_table u) time ≡ Some j → slot (decode_table t) k ≡ slot (decode_table u) j
     → Isolated (slot (decode_table t) k).address (expires t time) (expires u time)
 expire-isolated t u time k j bt bu ht st su ep el et eu q =
     rw (takes t time k st et, takes u time j su eu)
@@ -285,7 +278,7 @@ initialize-blind f t u own s e w = let v : initial_ok f s own (length u) ≡ tru
 
 -- ---- the writers
 
-write-record-met : (t u a : List ℕ) (sequence : ℕ) (value out : List ℕ) (E F : Entry) → groups_of (decode_table t).header ≡ groups_of (decode_table u).header → Met t u a E F
+write-record-met : (t u a : List ℕ) (sequence : ℕ) (value out : List ℕ) (E F : Result (Option ℕ) Refusal) → groups_of (decode_table t).header ≡ groups_of (decode_table u).header → Met t u a E F
     → writes_record_by E t sequence value out ≡ writes_record_by F u sequence value out
 unfolding writes_record_by
 write-record-met t u a sequence value out E F g neither = refl

@@ -1,5 +1,6 @@
 -- ISOLATION OVER LISTS OF CALLS: "Others' calls reach a peer's record and answers only through Open against the threshold, free slots, and whose deadline the
 -- clock call takes." A call about another address leaves this one its record; the same call about it, where the same reaches it, does the same at both tables.
+use Rattle.std.specs.Prelude.{Option, Some, None}
 use mathlib.Core.Path.{◌≡◌, refl, sym, ap, ◌∙◌, subst}
 use mathlib.Core.Logic.{inl, inr}
 use mathlib.Core.Bool.{true, false}
@@ -9,8 +10,6 @@ use native.Mathlib.Omega.{arith}
 use lib.ListN.{length}
 use borrow.Author.Tests.{eq-eqb}
 use Rattle.octets.specs.Octets.{Bytes, part, same_address}
-use Rattle.octets.specs.declared.Found.{Found}
-use Rattle.octets.specs.declared.Found.TheVariants as found
 use Rattle.octets.proofs.Laws.{part-part}
 use Rattle.octets.proofs.Scan.{clash, cases, and_right}
 use Rattle.octets.proofs.Tests.{same-address}
@@ -19,7 +18,7 @@ use Rattle.record.specs.Layout.{form_of, width_in, groups_of, decode_header, hea
 use Rattle.record.specs.Codec.{cut}
 use Rattle.record.specs.declared.Settings.{Settings}
 use Rattle.table.specs.Table.{Table, decode_table, slot, in_use, belongs, finds, look_by, look, sound}
-use Rattle.table.proofs.Laws.{entry_at}
+use Rattle.table.proofs.Laws.{entry-found}
 use Rattle.initial.specs.Initial.{slots_for, initial_header, initial_table, initial_ok}
 use Rattle.initial.proofs.Initial.{FitSettings, initial-slot, initial-served, initial-decoded}
 use Rattle.writer.specs.Writer.{writes_record}
@@ -101,9 +100,9 @@ call_stays t (receive address time frame fresh expected verdict) b s (a_receive 
     keeping-stays t address _ (receive-keeps t address time frame fresh expected verdict b la ba ht br bf be hv s)
 call_stays t (expire time) b s (an_expire ht) = go (due_slot (decode_table t) time) refl
   where
-    go : (f : Found) → due_slot (decode_table t) time ≡ f → Stays t (expires t time).table
-    go (found.At k) e = keeping-stays t (slot (decode_table t) k).address _ (expire-keeps-due t time k b ht s e)
-    go found.Nothing e = subst (Stays t) (sym (expire-keeps-none t time b e)) (stays-itself t b s)
+    go : (f : Option ℕ) → due_slot (decode_table t) time ≡ f → Stays t (expires t time).table
+    go (Some k) e = keeping-stays t (slot (decode_table t) k).address _ (expire-keeps-due t time k b ht s e)
+    go None e = subst (Stays t) (sym (expire-keeps-none t time b e)) (stays-itself t b s)
 
 after-stays : (t : List ℕ) (cs : List PeerCall) → Bytes t → sound t ≡ true → AllHanded cs → Stays t (after t cs)
 unfolding after
@@ -115,13 +114,13 @@ after-stays t (c ∷ cs) b s (more h hs) =
 
 module _ (t a : List ℕ) (b : Bytes t) (s : sound t ≡ true) where
   -- the clock call, by whose deadline it takes
-  other-expire : (time : ℕ) (f : Found) → time < 2 ^ 32 → due_slot (decode_table t) time ≡ f → belongs a (look_by (decode_table t) f) ≡ false
+  other-expire : (time : ℕ) (f : Option ℕ) → time < 2 ^ 32 → due_slot (decode_table t) time ≡ f → belongs a (look_by (decode_table t) f) ≡ false
       → look (decode_table (expires t time).table) a ≡ look (decode_table t) a
   unfolding belongs look_by
-  other-expire time (found.At k) ht e n =
+  other-expire time (Some k) ht e n =
       let i : in_use (slot (decode_table t) k) ≡ true = eq-eqb _ _ (due-used t time k b s e) in
       (expire-keeps-due t time k b ht s e).elsewhere a (rw i at n)
-  other-expire time found.Nothing ht e n = ap (λ (u : List ℕ). look (decode_table u) a) (expire-keeps-none t time b e)
+  other-expire time None ht e n = ap (λ (u : List ℕ). look (decode_table u) a) (expire-keeps-none t time b e)
 
   other-keeps : (c : PeerCall) → Handed c → about a t c ≡ false → look (decode_table (left t c).table) a ≡ look (decode_table t) a
   other-keeps (initiate address time fresh) (an_initiate la ba ht bf) n = (initiate-keeps t address time fresh b la ba ht bf s).elsewhere a n
@@ -133,7 +132,7 @@ module _ (t a : List ℕ) (b : Bytes t) (s : sound t ≡ true) where
 -- ---- the same call about the address, at two tables that are the same for it
 
 -- the record that the clock call takes is the address's
-module _ (t a : List ℕ) (b : Bytes t) (s : sound t ≡ true) (la : length a ≡ 6) (ba : Bytes a) (time k : ℕ) (e : due_slot (decode_table t) time ≡ found.At k)
+module _ (t a : List ℕ) (b : Bytes t) (s : sound t ≡ true) (la : length a ≡ 6) (ba : Bytes a) (time k : ℕ) (e : due_slot (decode_table t) time ≡ Some k)
     (m : belongs a (slot (decode_table t) k) ≡ true) where
   taken-address : (slot (decode_table t) k).address ≡ a
   unfolding belongs
@@ -142,19 +141,19 @@ module _ (t a : List ℕ) (b : Bytes t) (s : sound t ≡ true) (la : length a �
   taken-record : slot (decode_table t) k ≡ look (decode_table t) a
   unfolding look_by
   taken-record =
-      let f = (entry_at t _ k (due-entry t time k b s e)).1.1 in
-      look-found (decode_table t) a (found.At k) (subst (λ (x : List ℕ). finds (decode_table t) x ≡ found.At k) taken-address f)
+      let f = (entry-found t _ (Some k) (due-entry t time k b s e)).1.1 in
+      look-found (decode_table t) a (Some k) (subst (λ (x : List ℕ). finds (decode_table t) x ≡ Some k) taken-address f)
 
 module _ (t u a : List ℕ) (bt : Bytes t) (bu : Bytes u) (la : length a ≡ 6) (ba : Bytes a) (S : SameFor t u a) where
-  same-expire : (time : ℕ) (f g : Found) → time < 2 ^ 32 → due_slot (decode_table t) time ≡ f → due_slot (decode_table u) time ≡ g
+  same-expire : (time : ℕ) (f g : Option ℕ) → time < 2 ^ 32 → due_slot (decode_table t) time ≡ f → due_slot (decode_table u) time ≡ g
       → belongs a (look_by (decode_table t) f) ≡ true → belongs a (look_by (decode_table u) g) ≡ true → Isolated a (expires t time) (expires u time)
   unfolding belongs look_by no_peer
-  same-expire time (found.At k) (found.At j) ht e i m n =
+  same-expire time (Some k) (Some j) ht e i m n =
       subst (λ (x : List ℕ). Isolated x (expires t time) (expires u time)) (taken-address t a bt S.sound₁ la ba time k e m)
       (expire-isolated t u time k j bt bu ht S.sound₁ S.sound₂ S.period S.limit e i
       (taken-record t a bt S.sound₁ la ba time k e m ∙ S.peer ∙ sym (taken-record u a bu S.sound₂ la ba time j i n)))
-  same-expire time (found.At k) found.Nothing ht e i m n = absurd (clash n refl)
-  same-expire time found.Nothing g ht e i m n = absurd (clash m refl)
+  same-expire time (Some k) None ht e i m n = absurd (clash n refl)
+  same-expire time None g ht e i m n = absurd (clash m refl)
 
   -- the call is handed the address, and what it asks of the table is alike
   given : (address : List ℕ) → length address ≡ 6 → Bytes address → same_address address a ≡ true → address ≡ a
@@ -311,9 +310,9 @@ initial-look : (f : Form) (s : Settings) (own a : List ℕ) (n : ℕ) → look (
 unfolding look look_by
 initial-look f s own a n = go (finds (initial_table f s own n) a)
   where
-    go : (x : Found) → look_by (initial_table f s own n) x ≡ no_peer
-    go (found.At k) = initial-slot f s own n k
-    go found.Nothing = refl
+    go : (x : Option ℕ) → look_by (initial_table f s own n) x ≡ no_peer
+    go (Some k) = initial-slot f s own n k
+    go None = refl
 
 module _ (size : ℕ) where
   abbrev form : Form

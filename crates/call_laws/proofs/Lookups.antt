@@ -8,11 +8,9 @@ use native.Mathlib.Decide.{ℕ_discrete}
 use native.Mathlib.Omega.{arith}
 use lib.ListN.{length}
 use borrow.Author.Tests.{eq-eqb, ne_eqb}
-use Rattle.std.specs.Prelude.{if◌then◌else◌}
-use Rattle.octets.specs.Scan.{is_nothing, first_below}
+use Rattle.std.specs.Prelude.{if◌then◌else◌, Option, Some, None, Ok, Err, is_none, Result}
+use Rattle.octets.specs.Scan.{first_below}
 use Rattle.octets.specs.Octets.{Bytes, part}
-use Rattle.octets.specs.declared.Found.{Found}
-use Rattle.octets.specs.declared.Found.TheVariants as found
 use Rattle.octets.proofs.Scan.{clash, and_left, and_right, first-at, first-nothing}
 use Rattle.octets.proofs.Tests.{same-address}
 use Rattle.groups.specs.Groups.{width}
@@ -21,30 +19,29 @@ use Rattle.record.specs.Layout.{decode_peer, record_size, record_at, no_run, no_
 use Rattle.record.proofs.Laws.{FitPeer, shape-peer}
 use Rattle.soundness.proofs.Laws.{peer-unused, peer-in-use}
 use Rattle.table.specs.Table.{Table, width_of, decode_table, slots, slot, in_use, belongs, finds, look_by, look, sound, entry, found_entry}
-use Rattle.table.specs.declared.Entry.{Entry}
 use Rattle.table.proofs.Laws.{sound-whole, sound-peer, peers-held, found_below, ready}
 use Rattle.table.proofs.Octets.{record_in, slot_at, after-header}
 use Rattle.table.proofs.Fit.{fit-decoded, fit-slot}
 use Rattle.rules.specs.Book.{has_run, has_link, expired}
-use Rattle.answers.specs.declared.Refusal.TheVariants as why
-use Rattle.answers.specs.declared.Outcome.TheVariants as outcome
+use Rattle.causes.specs.declared.Refusal.TheVariants as why
+use Rattle.answers.specs.Outcome as outcome
 use Rattle.calls.specs.Calls.{due_slot, expires}
-use Rattle.lookups.specs.declared.Asked.TheVariants as asked
 use Rattle.lookups.specs.Lookups.{asked_returned, later, no_deadline, peer_left, next_deadline, asks_deadline, offset_by, asks_offset}
 use Rattle.lookups.proofs.Times.{peer-before, peer-reached, peer-most, peer-none, Idle, idle-left, idle-not-due, Least, nowhere, here, least-is, least-low, least-all}
 use Rattle.call_laws.specs.Causes.{first_cause, rising, absent, clock_causes, find_causes}
 use Rattle.call_laws.proofs.Ends.{Came, came, unsound, unusable, lacks, has, look-found}
 use Rattle.call_laws.proofs.Refuses.{Iff, Exact, exact, served, expire-refuses}
+use Rattle.causes.specs.declared.Refusal.{Refusal}
 
 -- ---- the refusals
 
 pub next-deadline-refuses : (t : List ℕ) (time : ℕ)
-    → asks_deadline t time ≡ first_cause asked.Refused (clock_causes t) (asked.Number (next_deadline (decode_table t) time))
+    → asks_deadline t time ≡ first_cause Err (clock_causes t) (Ok (next_deadline (decode_table t) time))
 unfolding asks_deadline first_cause clock_causes
 next-deadline-refuses t time = go (sound t)
   where
-    go : (b : Bool) → (if b then asked.Number (next_deadline (decode_table t) time) else asked.Refused why.Unsound)
-        ≡ (if not b then asked.Refused why.Unsound else asked.Number (next_deadline (decode_table t) time))
+    go : (b : Bool) → (if b then Ok (next_deadline (decode_table t) time) else Err why.Unsound)
+        ≡ (if not b then Err why.Unsound else Ok (next_deadline (decode_table t) time))
     go true = refl
     go false = refl
 
@@ -53,17 +50,17 @@ unfolding rising clock_causes
 clock-rises t = refl
 
 pub next-deadline-exact : (t : List ℕ) (time : ℕ) → Exact (asked_returned (asks_deadline t time)) (clock_causes t)
-next-deadline-exact t time = exact asked_returned asked.Refused _ (clock_causes t) _ (λ c. refl) refl (clock-rises t) (next-deadline-refuses t time)
+next-deadline-exact t time = exact asked_returned Err _ (clock_causes t) _ (λ c. refl) refl (clock-rises t) (next-deadline-refuses t time)
 
-find-refuses-by : (t a : List ℕ) (E : Entry) → Came t a E
-    → offset_by E (width_of t) ≡ first_cause asked.Refused (find_causes t a) (offset_by (found_entry (finds (decode_table t) a)) (width_of t))
+find-refuses-by : (t a : List ℕ) (E : Result (Option ℕ) Refusal) → Came t a E
+    → offset_by E (width_of t) ≡ first_cause Err (find_causes t a) (offset_by (found_entry (finds (decode_table t) a)) (width_of t))
 unfolding offset_by first_cause find_causes found_entry
 find-refuses-by t a E (unsound s) = rw s
 find-refuses-by t a E (unusable s u) = rw (s, u)
 find-refuses-by t a E (lacks s u f) = rw (s, u, f)
 find-refuses-by t a E (has s u f) = rw (s, u, f)
 
-pub find-refuses : (t a : List ℕ) → asks_offset t a ≡ first_cause asked.Refused (find_causes t a) (offset_by (found_entry (finds (decode_table t) a)) (width_of t))
+pub find-refuses : (t a : List ℕ) → asks_offset t a ≡ first_cause Err (find_causes t a) (offset_by (found_entry (finds (decode_table t) a)) (width_of t))
 unfolding asks_offset
 find-refuses t a = find-refuses-by t a (entry t a) (came t a)
 
@@ -71,28 +68,28 @@ find-rises : (t a : List ℕ) → rising 0 (find_causes t a) ≡ true
 unfolding rising find_causes
 find-rises t a = refl
 
-offset-answers : (f : Found) (W : ℕ) → asked_returned (offset_by (found_entry f) W) ≡ 0
+offset-answers : (f : Option ℕ) (W : ℕ) → asked_returned (offset_by (found_entry f) W) ≡ 0
 unfolding offset_by found_entry
-offset-answers (found.At k) W = refl
-offset-answers found.Nothing W = refl
+offset-answers (Some k) W = refl
+offset-answers None W = refl
 
 pub find-exact : (t a : List ℕ) → Exact (asked_returned (asks_offset t a)) (find_causes t a)
 find-exact t a =
-    exact asked_returned asked.Refused _ (find_causes t a) _ (λ c. refl) (offset-answers (finds (decode_table t) a) (width_of t)) (find-rises t a) (find-refuses t a)
+    exact asked_returned Err _ (find_causes t a) _ (λ c. refl) (offset-answers (finds (decode_table t) a) (width_of t)) (find-rises t a) (find-refuses t a)
 
 -- ---- the next deadline against the clock call
 
 -- a number is answered only of a sound table
-number-sound : (t : List ℕ) (time n : ℕ) → asks_deadline t time ≡ asked.Number n → (sound t ≡ true) × (next_deadline (decode_table t) time ≡ n)
+number-sound : (t : List ℕ) (time n : ℕ) → asks_deadline t time ≡ Ok n → (sound t ≡ true) × (next_deadline (decode_table t) time ≡ n)
 unfolding asks_deadline
 number-sound t time n e = go (sound t) refl e
   where
-    go : (b : Bool) → sound t ≡ b → (if b then asked.Number (next_deadline (decode_table t) time) else asked.Refused why.Unsound) ≡ asked.Number n
+    go : (b : Bool) → sound t ≡ b → (if b then Ok (next_deadline (decode_table t) time) else Err why.Unsound) ≡ Ok n
         → (sound t ≡ true) × (next_deadline (decode_table t) time ≡ n)
     go true s q = (s, cc)
     go false s q = let z : ◌≡◌ {A = ℕ} 0 1 = cc in absurd (omega arith)
 
-sound-number : (t : List ℕ) (time : ℕ) → sound t ≡ true → asks_deadline t time ≡ asked.Number (next_deadline (decode_table t) time)
+sound-number : (t : List ℕ) (time : ℕ) → sound t ≡ true → asks_deadline t time ≡ Ok (next_deadline (decode_table t) time)
 unfolding asks_deadline
 sound-number t time s = rw s
 
@@ -110,21 +107,21 @@ done-sound t time q = go (sound t) refl (sym (expire-refuses t time) ∙ q)
     go true s e = s
     go false s e = let z : ◌≡◌ {A = ℕ} 0 1 = cc in absurd (omega arith)
 
-none-due : (T : Table) (time : ℕ) → ((k : ℕ) → k < slots T → expired (slot T k) time ≡ false) → due_slot T time ≡ found.Nothing
+none-due : (T : Table) (time : ℕ) → ((k : ℕ) → k < slots T → expired (slot T k) time ≡ false) → due_slot T time ≡ None
 unfolding due_slot
 none-due T time a = go (first_below (λ k. expired (slot T k) time) (slots T)) refl
   where
-    go : (f : Found) → first_below (λ k. expired (slot T k) time) (slots T) ≡ f → f ≡ found.Nothing
-    go found.Nothing e = refl
-    go (found.At k) e = let w = first-at (λ k. expired (slot T k) time) (slots T) k e in absurd (clash w.1 (a k w.0))
+    go : (f : Option ℕ) → first_below (λ k. expired (slot T k) time) (slots T) ≡ f → f ≡ None
+    go None e = refl
+    go (Some k) e = let w = first-at (λ k. expired (slot T k) time) (slots T) k e in absurd (clash w.1 (a k w.0))
 
 one-due : (T : Table) (time k : ℕ) → k < slots T → expired (slot T k) time ≡ true → served (due_slot T time) ≡ outcome.Done
 unfolding due_slot
 one-due T time k l d = go (first_below (λ k. expired (slot T k) time) (slots T)) refl
   where
-    go : (f : Found) → first_below (λ k. expired (slot T k) time) (slots T) ≡ f → served f ≡ outcome.Done
-    go (found.At j) e = refl
-    go found.Nothing e = absurd (clash d (first-nothing (λ k. expired (slot T k) time) (slots T) e k l))
+    go : (f : Option ℕ) → first_below (λ k. expired (slot T k) time) (slots T) ≡ f → served f ≡ outcome.Done
+    go (Some j) e = refl
+    go None e = absurd (clash d (first-nothing (λ k. expired (slot T k) time) (slots T) e k l))
 
 -- the record of a slot, and the time left until its deadlines
 abbrev peer_at : List ℕ → ℕ → Peer
@@ -166,7 +163,7 @@ module _ (t : List ℕ) (b : Bytes t) (s : sound t ≡ true) where
   ]
 
   module _ (time : ℕ) (h : time < 2 ^ 32) where
-    table_before : (d : ℕ) → d < next_deadline (decode_table t) time → due_slot (decode_table t) (later time d) ≡ found.Nothing
+    table_before : (d : ℕ) → d < next_deadline (decode_table t) time → due_slot (decode_table t) (later time d) ≡ None
     table_before d l =
         none-due (decode_table t) (later time d) (λ k m. peer-before (peer_at t k) (slot-fits k m) time h d (omega (arith, l, next_low t time k m)))
 
@@ -192,7 +189,7 @@ module _ (t : List ℕ) (b : Bytes t) (s : sound t ≡ true) where
 
 -- FOR EVERY TABLE OF OCTETS and every reading of the clock
 module _ (t : List ℕ) (b : Bytes t) (time : ℕ) (h : time < 2 ^ 32) where
-  module _ (n : ℕ) (e : asks_deadline t time ≡ asked.Number n) where
+  module _ (n : ℕ) (e : asks_deadline t time ≡ Ok n) where
     -- UNTIL THEN the clock call says that none is due
     pub none_before : (d : ℕ) → d < n → (expires t (later time d)).answer.outcome ≡ outcome.NoneDue
     none_before d l =
@@ -217,16 +214,16 @@ module _ (t : List ℕ) (b : Bytes t) (time : ℕ) (h : time < 2 ^ 32) where
         ∙ ap served (none-due (decode_table t) reading (λ k l. idle-not-due (peer_at t k) (table_none t b w.0 time h (w.1 ∙ q) k l) reading))
 
   -- 0 EXACTLY if the clock call serves a record now
-  pub zero-exactly : Iff (asks_deadline t time ≡ asked.Number 0) ((expires t time).answer.outcome ≡ outcome.Done)
+  pub zero-exactly : Iff (asks_deadline t time ≡ Ok 0) ((expires t time).answer.outcome ≡ outcome.Done)
   zero-exactly = record { to = to; from = from }
     where
       now : later time 0 ≡ time
       now = omega arith
 
-      to : asks_deadline t time ≡ asked.Number 0 → (expires t time).answer.outcome ≡ outcome.Done
+      to : asks_deadline t time ≡ Ok 0 → (expires t time).answer.outcome ≡ outcome.Done
       to e = subst (λ (x : ℕ). (expires t x).answer.outcome ≡ outcome.Done) now (served-then 0 e (omega arith))
 
-      waits : (n : ℕ) → asks_deadline t time ≡ asked.Number n → (expires t time).answer.outcome ≡ outcome.Done → n ≡ 0
+      waits : (n : ℕ) → asks_deadline t time ≡ Ok n → (expires t time).answer.outcome ≡ outcome.Done → n ≡ 0
       waits zero e q = refl
       waits (suc n) e q =
           let w : (expires t (later time 0)).answer.outcome ≡ outcome.NoneDue = none_before (suc n) e 0 (omega arith) in
@@ -234,18 +231,18 @@ module _ (t : List ℕ) (b : Bytes t) (time : ℕ) (h : time < 2 ^ 32) where
           let z : ◌≡◌ {A = ℕ} 0 1 = cc in
           absurd (omega arith)
 
-      from : (expires t time).answer.outcome ≡ outcome.Done → asks_deadline t time ≡ asked.Number 0
+      from : (expires t time).answer.outcome ≡ outcome.Done → asks_deadline t time ≡ Ok 0
       from q =
           let s : sound t ≡ true = done-sound t time q in
-          sound-number t time s ∙ ap asked.Number (waits (next_deadline (decode_table t) time) (sound-number t time s) q)
+          sound-number t time s ∙ ap Ok (waits (next_deadline (decode_table t) time) (sound-number t time s) q)
 
   -- ALL ONES EXACTLY if the table is sound and no record is in use
-  pub none-exactly : Iff (asks_deadline t time ≡ asked.Number no_deadline)
+  pub none-exactly : Iff (asks_deadline t time ≡ Ok no_deadline)
       ((sound t ≡ true) × ((k : ℕ) → k < slots (decode_table t) → in_use (slot (decode_table t) k) ≡ false))
   none-exactly =
       record {
         to = λ e. let w = number-sound t time no_deadline e in (w.0, λ k l. idle-free t b w.0 k l (table_none t b w.0 time h w.1 k l));
-        from = λ f. sound-number t time f.0 ∙ ap asked.Number (table-idle t b f.0 time h f.1);
+        from = λ f. sound-number t time f.0 ∙ ap Ok (table-idle t b f.0 time h f.1);
       }
 
 -- ---- where a record lies
@@ -258,12 +255,12 @@ pub record Lies (t a : List ℕ) (n : ℕ) : Type 0 where
   pub address : (look (decode_table t) a).address ≡ a
 
 module _ (t a : List ℕ) (b : Bytes t) (c : Bytes a) (l : length a ≡ 6) where
-  lies_at : (k : ℕ) → sound t ≡ true → finds (decode_table t) a ≡ found.At k → Lies t a (record_at (width_of t) k)
+  lies_at : (k : ℕ) → sound t ≡ true → finds (decode_table t) a ≡ Some k → Lies t a (record_at (width_of t) k)
   unfolding belongs look_by record_in
   lies_at k s f =
       let w = found_below (decode_table t) a k f in
       let r = ready t s k w.0 in
-      let q : slot (decode_table t) k ≡ look (decode_table t) a = look-found (decode_table t) a (found.At k) f in
+      let q : slot (decode_table t) k ≡ look (decode_table t) a = look-found (decode_table t) a (Some k) f in
       let g = slot-fits t b s k w.0 in
       let m : (slot (decode_table t) k).address ≡ a = same-address _ a (g.address ∙ sym l) g.bytes c (and_right (in_use (slot (decode_table t) k)) _ w.1) in
       record {
@@ -273,24 +270,24 @@ module _ (t a : List ℕ) (b : Bytes t) (c : Bytes a) (l : length a ≡ 6) where
         address = rw (← q) m;
       }
 
-  zero-by : (n : ℕ) (E : Entry) → Came t a E → offset_by E (width_of t) ≡ asked.Number n → Iff (n ≡ 0) (absent (decode_table t) a ≡ true)
+  zero-by : (n : ℕ) (E : Result (Option ℕ) Refusal) → Came t a E → offset_by E (width_of t) ≡ Ok n → Iff (n ≡ 0) (absent (decode_table t) a ≡ true)
   unfolding offset_by absent
   zero-by n E (unsound s) e = let z : ◌≡◌ {A = ℕ} 0 1 = cc in absurd (omega arith)
   zero-by n E (unusable s u) e = let z : ◌≡◌ {A = ℕ} 0 1 = cc in absurd (omega arith)
   zero-by n E (lacks s u f) e = record { to = λ z. rw f; from = λ z. cc }
   zero-by n E (has {k} s u f) e =
       let q : record_at (width_of t) k ≡ n = cc in
-      let y : is_nothing (finds (decode_table t) a) ≡ false = rw f in
+      let y : is_none (finds (decode_table t) a) ≡ false = rw f in
       record { to = λ z. absurd (omega (arith, after-header (width_of t) k)); from = λ z. absurd (clash z y) }
 
-  lies-by : (n : ℕ) (E : Entry) → Came t a E → offset_by E (width_of t) ≡ asked.Number n → (n ≡ 0 → ⊥) → Lies t a n
+  lies-by : (n : ℕ) (E : Result (Option ℕ) Refusal) → Came t a E → offset_by E (width_of t) ≡ Ok n → (n ≡ 0 → ⊥) → Lies t a n
   unfolding offset_by
   lies-by n E (unsound s) e d = let z : ◌≡◌ {A = ℕ} 0 1 = cc in absurd (omega arith)
   lies-by n E (unusable s u) e d = let z : ◌≡◌ {A = ℕ} 0 1 = cc in absurd (omega arith)
   lies-by n E (lacks s u f) e d = absurd (d (cc))
   lies-by n E (has {k} s u f) e d = let q : record_at (width_of t) k ≡ n = cc in subst (Lies t a) q (lies_at k s f)
 
-  module _ (n : ℕ) (e : asks_offset t a ≡ asked.Number n) where
+  module _ (n : ℕ) (e : asks_offset t a ≡ Ok n) where
     -- 0 EXACTLY if the address has no record
     pub offset-zero : Iff (n ≡ 0) (absent (decode_table t) a ≡ true)
     unfolding asks_offset

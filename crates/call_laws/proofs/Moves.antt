@@ -8,10 +8,8 @@ use native.Mathlib.Nat.{mul-zero, mul-suc, mul-div_cancel_left}
 use lib.ListN.{length, take, drop, get_or, length-append}
 use lib.Seq.{take_at, drop_at, length-take-le}
 use borrow.Author.Tests.{eqb-true, eq-eqb, ne_eqb}
-use Rattle.std.specs.Prelude.{if◌then◌else◌}
+use Rattle.std.specs.Prelude.{if◌then◌else◌, Option, Some, None, Result, Ok, Err}
 use Rattle.octets.specs.Octets.{Bytes, part}
-use Rattle.octets.specs.declared.Found.{Found}
-use Rattle.octets.specs.declared.Found.TheVariants as found
 use Rattle.octets.proofs.Laws.{length_part, bytes_take, bytes_drop, bytes-append}
 use Rattle.octets.proofs.Scan.{and_left}
 use Rattle.groups.specs.Groups.{width, commit_length, listed, stored, Storable, commits_of, fresh_of, fresh_at, fresh_ok}
@@ -25,24 +23,19 @@ use Rattle.soundness.specs.Soundness.{usable, commit_ok}
 use Rattle.soundness.proofs.Laws.{header-width}
 use Rattle.soundness.proofs.Storable.{header-room}
 use Rattle.table.specs.Table.{Table, width_of, decode_table, encode_table, slot, used_count, open_count, good_count, finds, free_slot, look_by, sound, entry, recounted, with_peer, placed}
-use Rattle.table.specs.declared.Entry.{Entry}
-use Rattle.table.specs.declared.Entry.TheVariants as entry-is
 use Rattle.table.proofs.Laws.{sound-header}
 use Rattle.table.proofs.Kept.{good-storable, placed-decoded}
 use Rattle.good_links.specs.GoodLinks.{filled}
 use Rattle.good_links.proofs.GoodLinks.{filled-same, fills-sound}
 use Rattle.rules.specs.Book.{Step}
 use Rattle.rule_laws.proofs.Keeps.{listed_at}
-use Rattle.answers.specs.declared.Refusal.TheVariants as why
-use Rattle.answers.specs.declared.Outcome.TheVariants as outcome
-use Rattle.answers.specs.declared.Turn.{Turn}
-use Rattle.answers.specs.declared.Turn.TheVariants.{Refused, Go}
+use Rattle.causes.specs.declared.Refusal.TheVariants as why
+use Rattle.answers.specs.Outcome as outcome
 use Rattle.answers.specs.Answers.{Left, ends, seating, finish_at, finishes, turned, refuse, refused, said, none_due}
 use Rattle.answers.proofs.Laws.{entered-seated, unchanged-ends}
 use Rattle.answers.proofs.Theorems.{Good}
 use Rattle.calls.specs.Calls.{crowded, full, terms_of, clock_of, fresh_in, admit_start, start_turn, start_step, initiates, kill_turn, kill_step, kills, admit_frame, frame_turn, frame_step, receives, due_slot, clock_step, expires_by, expires}
 use Rattle.writer.specs.Writer.{writes_parts, writes_record_by, writes_record}
-use Rattle.lookups.specs.declared.Asked.TheVariants as asked
 use Rattle.lookups.specs.Lookups.{next_deadline, asks_deadline, offset_by, asks_offset, asks_good}
 use Rattle.lookups.proofs.GoodLinks.{sound-answered}
 use Rattle.moves.specs.declared.Direction.{Direction}
@@ -58,6 +51,7 @@ use Rattle.call_laws.proofs.Ends.{finish-answer, due_left, takes}
 use Rattle.call_laws.proofs.Sound.{turn-keeps, expire-keeps-none}
 use Rattle.call_laws.proofs.Isolated.{write-parts-isolated}
 use Rattle.call_laws.proofs.Isolation.{Stays, stays-itself, stays_on, call_stays}
+use Rattle.causes.specs.declared.Refusal.{Refusal}
 
 -- ---- a table in another form: all that calls ask of it is the same but for its width
 
@@ -70,12 +64,12 @@ module _ (T : Table) (n : ℕ) where
   unfolding free_slot slot
   free-sized = refl
 
-  look-sized : (f : Found) → look_by (resized n T) f ≡ look_by T f
+  look-sized : (f : Option ℕ) → look_by (resized n T) f ≡ look_by T f
   unfolding look_by slot
-  look-sized (found.At k) = refl
-  look-sized found.Nothing = refl
+  look-sized (Some k) = refl
+  look-sized None = refl
 
-  terms-sized : (f : Found) → terms_of (resized n T) f ≡ terms_of T f
+  terms-sized : (f : Option ℕ) → terms_of (resized n T) f ≡ terms_of T f
   unfolding crowded full free_slot slot
   terms-sized f = refl
 
@@ -103,14 +97,14 @@ module _ (W W' : ℕ) (gs s z : List ℕ) where
 -- ---- what a call comes to, and its step
 
 module _ (T U : Table) (n : ℕ) (e : U ≡ resized n T) where
-  terms-alike : (f : Found) → terms_of U f ≡ terms_of T f
+  terms-alike : (f : Option ℕ) → terms_of U f ≡ terms_of T f
   terms-alike f = ap (λ (X : Table). terms_of X f) e ∙ terms-sized T n f
 
   slot-alike : (k : ℕ) → slot U k ≡ slot T k
   unfolding slot
   slot-alike k = ap (λ (X : Table). slot X k) e
 
-  look-alike : (f : Found) → look_by U f ≡ look_by T f
+  look-alike : (f : Option ℕ) → look_by U f ≡ look_by T f
   look-alike f = ap (λ (X : Table). look_by X f) e ∙ look-sized T n f
 
   clock-alike : (time : ℕ) → clock_of U.header time ≡ clock_of T.header time
@@ -119,40 +113,40 @@ module _ (T U : Table) (n : ℕ) (e : U ≡ resized n T) where
   groups-alike : groups_of U.header ≡ groups_of T.header
   groups-alike = ap (λ (X : Table). groups_of X.header) e
 
-  seat-alike : (f : Found) → seating U f ≡ seating T f
+  seat-alike : (f : Option ℕ) → seating U f ≡ seating T f
   unfolding seating
-  seat-alike (found.At k) = refl
-  seat-alike found.Nothing = ap free_slot e ∙ free-sized T n
+  seat-alike (Some k) = refl
+  seat-alike None = ap free_slot e ∙ free-sized T n
 
   -- a stock in each one's own length
   module _ (s z : List ℕ) (S : SameStock (width_in T.header) (width_in U.header) (length (groups_of T.header)) s z) where
     taken-alike : fresh_ok (width_in U.header) (groups_of U.header) z ≡ fresh_ok (width_in T.header) (groups_of T.header) s
     taken-alike = ap (λ (gs : List ℕ). fresh_ok (width_in U.header) gs z) groups-alike ∙ fresh-alike (width_in T.header) (width_in U.header) (groups_of T.header) s z S
 
-    admit-start-alike : (f : Found) → admit_start U f z ≡ admit_start T f s
+    admit-start-alike : (f : Option ℕ) → admit_start U f z ≡ admit_start T f s
     unfolding admit_start
     admit-start-alike f = rw (taken-alike, look-alike f) refl
 
-    start-step-alike : (f : Found) (a : List ℕ) (time : ℕ) → fresh_in U.header z ≡ fresh_in T.header s → start_step U f a time z ≡ start_step T f a time s
+    start-step-alike : (f : Option ℕ) (a : List ℕ) (time : ℕ) → fresh_in U.header z ≡ fresh_in T.header s → start_step U f a time z ≡ start_step T f a time s
     unfolding start_step
     start-step-alike f a time q = rw (terms-alike f, clock-alike time, q, look-alike f) refl
 
-    admit-frame-alike : (f : Found) (frame expected : List ℕ) (verdict : ℕ) → admit_frame U f frame z expected verdict ≡ admit_frame T f frame s expected verdict
+    admit-frame-alike : (f : Option ℕ) (frame expected : List ℕ) (verdict : ℕ) → admit_frame U f frame z expected verdict ≡ admit_frame T f frame s expected verdict
     unfolding admit_frame
     admit-frame-alike f frame expected verdict = rw (taken-alike, groups-alike) refl
 
-    frame-step-alike : (f : Found) (a : List ℕ) (time : ℕ) (frame expected : List ℕ) (verdict : ℕ) → fresh_in U.header z ≡ fresh_in T.header s
+    frame-step-alike : (f : Option ℕ) (a : List ℕ) (time : ℕ) (frame expected : List ℕ) (verdict : ℕ) → fresh_in U.header z ≡ fresh_in T.header s
         → frame_step U f a time frame z expected verdict ≡ frame_step T f a time frame s expected verdict
     unfolding frame_step
     frame-step-alike f a time frame expected verdict q = rw (terms-alike f, clock-alike time, q, look-alike f, groups-alike) refl
 
   clock-step-alike : (k time : ℕ) → clock_step U k time ≡ clock_step T k time
   unfolding clock_step
-  clock-step-alike k time = rw (terms-alike (found.At k), clock-alike time, slot-alike k) refl
+  clock-step-alike k time = rw (terms-alike (Some k), clock-alike time, slot-alike k) refl
 
 -- ---- where none is due
 
-none-answer : (t : List ℕ) (time : ℕ) → sound t ≡ true → due_slot (decode_table t) time ≡ found.Nothing → (expires t time).answer ≡ none_due
+none-answer : (t : List ℕ) (time : ℕ) → sound t ≡ true → due_slot (decode_table t) time ≡ None → (expires t time).answer ≡ none_due
 unfolding expires expires_by ends
 none-answer t time s e = rw (s, e) refl
 
@@ -186,20 +180,20 @@ module _ (t u : List ℕ) (S : SameContents t u) where
 
   module _ (a : List ℕ) (la : length a ≡ 6) (ba : Bytes a) where
     -- A RECORD STORED in both tables leaves tables that say the same
-    module _ (f : Found) (s : Step) (G : Good t a f s) (H : Good u a f s) where
+    module _ (f : Option ℕ) (s : Step) (G : Good t a f s) (H : Good u a f s) where
       stored_at : (x : List ℕ) → Bytes x → Good x a f s → (k : ℕ) → decode_table (encode_table (placed (decode_table x) k s.peer)) ≡ placed (decode_table x) k s.peer
       stored_at x b K k =
           let w = (entered-seated x a f K.came).whole in
           placed-decoded x k s.peer b w K.fits (good-storable x s.peer w K.fits K.form)
 
-      finish-says : (b : Bool) (x : Found)
+      finish-says : (b : Bool) (x : Option ℕ)
           → decode_table (if b then refuse u why.Full else finish_at x u s a).table ≡ resized size (decode_table (if b then refuse t why.Full else finish_at x t s a).table)
       unfolding finish_at ends placed
       finish-says true x = S.table
-      finish-says false (found.At k) =
+      finish-says false (Some k) =
           stored_at u S.bytes₂ H k ∙ ap (λ (X : Table). placed X k s.peer) S.table ∙ placed-sized (decode_table t) size k s.peer
           ∙ ap (resized size) (sym (stored_at t S.bytes₁ G k))
-      finish-says false found.Nothing =
+      finish-says false None =
           ap decode_table (unchanged-ends (said s a) u S.bytes₂ S.sound₂) ∙ S.table
           ∙ ap (λ (x : List ℕ). resized size (decode_table x)) (sym (unchanged-ends (said s a) t S.bytes₁ S.sound₁))
 
@@ -208,22 +202,22 @@ module _ (t u : List ℕ) (S : SameContents t u) where
       finished-alike = rw (seat-alike (decode_table t) (decode_table u) size S.table f) (finish-says s.refused (seating (decode_table t) f))
 
     -- EVERY CALL ABOUT AN ADDRESS whose step is the same at both
-    module _ (g h : Found → Step) where
-      turn-answers : (w : Turn) → ((f : Found) → w ≡ Go f → g f ≡ h f) → (turned w g t a).answer ≡ (turned w h u a).answer
+    module _ (g h : Option ℕ → Step) where
+      turn-answers : (w : Result (Option ℕ) Refusal) → ((f : Option ℕ) → w ≡ Ok f → g f ≡ h f) → (turned w g t a).answer ≡ (turned w h u a).answer
       unfolding turned
-      turn-answers (Refused c) e = refl
-      turn-answers (Go f) e =
+      turn-answers (Err c) e = refl
+      turn-answers (Ok f) e =
           finish-answer t f (g f) a ∙ ap (λ (s : Step). if s.refused then refused why.Full else said s a) (e f refl) ∙ sym (finish-answer u f (h f) a)
 
-      turn-says : (w : Turn) → ((f : Found) → w ≡ Go f → g f ≡ h f) → ((f : Found) → w ≡ Go f → Good t a f (g f)) → ((f : Found) → w ≡ Go f → Good u a f (h f))
+      turn-says : (w : Result (Option ℕ) Refusal) → ((f : Option ℕ) → w ≡ Ok f → g f ≡ h f) → ((f : Option ℕ) → w ≡ Ok f → Good t a f (g f)) → ((f : Option ℕ) → w ≡ Ok f → Good u a f (h f))
           → decode_table (turned w h u a).table ≡ resized size (decode_table (turned w g t a).table)
       unfolding turned
-      turn-says (Refused c) e G H = S.table
-      turn-says (Go f) e G H =
+      turn-says (Err c) e G H = S.table
+      turn-says (Ok f) e G H =
           subst (λ (s : Step). Good u a f s → decode_table (finishes u f s a).table ≡ resized size (decode_table (finishes t f (g f) a).table)) (e f refl)
           (λ K. finished-alike f (g f) (G f refl) K) (H f refl)
 
-      turn-alike : (w : Turn) → ((f : Found) → w ≡ Go f → g f ≡ h f) → ((f : Found) → w ≡ Go f → Good t a f (g f)) → ((f : Found) → w ≡ Go f → Good u a f (h f))
+      turn-alike : (w : Result (Option ℕ) Refusal) → ((f : Option ℕ) → w ≡ Ok f → g f ≡ h f) → ((f : Option ℕ) → w ≡ Ok f → Good t a f (g f)) → ((f : Option ℕ) → w ≡ Ok f → Good u a f (h f))
           → AlikeLeft (turned w g t a) (turned w h u a)
       turn-alike w e G H =
           let K = turn-keeps w g t a S.bytes₁ la ba S.sound₁ G in
@@ -242,18 +236,18 @@ module _ (t u : List ℕ) (S : SameContents t u) where
   -- ---- the calls about peers
 
   -- Start
-  start-turn-alike : (s z : List ℕ) → SameStock (width_of t) (width_of u) (length (groups_in t)) s z → (E : Entry) → start_turn E u z ≡ start_turn E t s
+  start-turn-alike : (s z : List ℕ) → SameStock (width_of t) (width_of u) (length (groups_in t)) s z → (E : Result (Option ℕ) Refusal) → start_turn E u z ≡ start_turn E t s
   unfolding start_turn decode_table
-  start-turn-alike s z P entry-is.Unsound = refl
-  start-turn-alike s z P entry-is.Unusable = refl
-  start-turn-alike s z P entry-is.Absent = admit-start-alike (decode_table t) (decode_table u) size S.table s z P found.Nothing
-  start-turn-alike s z P (entry-is.At k) = admit-start-alike (decode_table t) (decode_table u) size S.table s z P (found.At k)
+  start-turn-alike s z P (Err why.Unsound) = refl
+  start-turn-alike s z P (Err why.Address) = refl
+  start-turn-alike s z P (Ok None) = admit-start-alike (decode_table t) (decode_table u) size S.table s z P None
+  start-turn-alike s z P (Ok (Some k)) = admit-start-alike (decode_table t) (decode_table u) size S.table s z P (Some k)
 
   initiate-alike : (a : List ℕ) (time : ℕ) (s z : List ℕ) → length a ≡ 6 → Bytes a → time < 2 ^ 32 → Bytes s → Bytes z
       → SameStock (width_of t) (width_of u) (length (groups_in t)) s z → AlikeLeft (initiates t a time s) (initiates u a time z)
   unfolding initiates decode_table
   initiate-alike a time s z la ba ht bs bz P =
-      let same : start_turn (entry u a) u z ≡ start_turn (entry t a) t s = ap (λ (E : Entry). start_turn E u z) (entry-alike a) ∙ start-turn-alike s z P (entry t a) in
+      let same : start_turn (entry u a) u z ≡ start_turn (entry t a) t s = ap (λ (E : Result (Option ℕ) Refusal). start_turn E u z) (entry-alike a) ∙ start-turn-alike s z P (entry t a) in
       rw same
       (turn-alike a la ba (λ f. start_step (decode_table t) f a time s) (λ f. start_step (decode_table u) f a time z) (start_turn (entry t a) t s)
       (λ f e.
@@ -273,19 +267,19 @@ module _ (t u : List ℕ) (S : SameContents t u) where
 
   -- Frame received
   module _ (frame s z expected : List ℕ) (verdict : ℕ) (P : SameStock (width_of t) (width_of u) (length (groups_in t)) s z) where
-    frame-turn-alike : (E : Entry) → frame_turn E u frame z expected verdict ≡ frame_turn E t frame s expected verdict
+    frame-turn-alike : (E : Result (Option ℕ) Refusal) → frame_turn E u frame z expected verdict ≡ frame_turn E t frame s expected verdict
     unfolding frame_turn decode_table
-    frame-turn-alike entry-is.Unsound = refl
-    frame-turn-alike entry-is.Unusable = refl
-    frame-turn-alike entry-is.Absent = admit-frame-alike (decode_table t) (decode_table u) size S.table s z P found.Nothing frame expected verdict
-    frame-turn-alike (entry-is.At k) = admit-frame-alike (decode_table t) (decode_table u) size S.table s z P (found.At k) frame expected verdict
+    frame-turn-alike (Err why.Unsound) = refl
+    frame-turn-alike (Err why.Address) = refl
+    frame-turn-alike (Ok None) = admit-frame-alike (decode_table t) (decode_table u) size S.table s z P None frame expected verdict
+    frame-turn-alike (Ok (Some k)) = admit-frame-alike (decode_table t) (decode_table u) size S.table s z P (Some k) frame expected verdict
 
     receive-alike : (a : List ℕ) (time : ℕ) → length a ≡ 6 → Bytes a → time < 2 ^ 32 → Bytes frame → Bytes s → Bytes z → Bytes expected → verdict < 2 ^ 8
         → AlikeLeft (receives t a time frame s expected verdict) (receives u a time frame z expected verdict)
     unfolding receives decode_table
     receive-alike a time la ba ht br bs bz be hv =
         let same : frame_turn (entry u a) u frame z expected verdict ≡ frame_turn (entry t a) t frame s expected verdict =
-        ap (λ (E : Entry). frame_turn E u frame z expected verdict) (entry-alike a) ∙ frame-turn-alike (entry t a) in
+        ap (λ (E : Result (Option ℕ) Refusal). frame_turn E u frame z expected verdict) (entry-alike a) ∙ frame-turn-alike (entry t a) in
         rw same
         (turn-alike a la ba (λ f. frame_step (decode_table t) f a time frame s expected verdict) (λ f. frame_step (decode_table u) f a time frame z expected verdict)
         (frame_turn (entry t a) t frame s expected verdict)
@@ -300,27 +294,27 @@ module _ (t u : List ℕ) (S : SameContents t u) where
   due-alike time = ap (λ (X : Table). due_slot X time) S.table ∙ due-sized (decode_table t) size time
 
   module _ (time : ℕ) (ht : time < 2 ^ 32) where
-    expire-due-alike : (k : ℕ) → due_slot (decode_table t) time ≡ found.At k → AlikeLeft (due_left t time k) (due_left u time k)
+    expire-due-alike : (k : ℕ) → due_slot (decode_table t) time ≡ Some k → AlikeLeft (due_left t time k) (due_left u time k)
     unfolding turned
     expire-due-alike k e =
-        let d : due_slot (decode_table u) time ≡ found.At k = due-alike time ∙ e in
+        let d : due_slot (decode_table u) time ≡ Some k = due-alike time ∙ e in
         let q : slot (decode_table u) k ≡ slot (decode_table t) k = slot-alike (decode_table t) (decode_table u) size S.table k in
         let six = expire_address t time k S.bytes₁ S.sound₁ e in
         let G = expire_good t time k S.bytes₁ ht S.sound₁ e in
-        let H = subst (λ (p : Peer). Good u p.address (found.At k) (clock_step (decode_table u) k time)) q (expire_good u time k S.bytes₂ ht S.sound₂ d) in
-        subst (λ (p : Peer). AlikeLeft (due_left t time k) (finishes u (found.At k) (clock_step (decode_table u) k time) p.address)) (sym q)
-        (turn-alike (slot (decode_table t) k).address six.0 six.1 (λ f. clock_step (decode_table t) k time) (λ f. clock_step (decode_table u) k time) (Go (found.At k))
+        let H = subst (λ (p : Peer). Good u p.address (Some k) (clock_step (decode_table u) k time)) q (expire_good u time k S.bytes₂ ht S.sound₂ d) in
+        subst (λ (p : Peer). AlikeLeft (due_left t time k) (finishes u (Some k) (clock_step (decode_table u) k time) p.address)) (sym q)
+        (turn-alike (slot (decode_table t) k).address six.0 six.1 (λ f. clock_step (decode_table t) k time) (λ f. clock_step (decode_table u) k time) (Ok (Some k))
         (λ f w. sym (clock-step-alike (decode_table t) (decode_table u) size S.table k time))
-        (λ f w. subst (λ (x : Found). Good t (slot (decode_table t) k).address x (clock_step (decode_table t) k time)) (go_same w) G)
-        (λ f w. subst (λ (x : Found). Good u (slot (decode_table t) k).address x (clock_step (decode_table u) k time)) (go_same w) H))
+        (λ f w. subst (λ (x : Option ℕ). Good t (slot (decode_table t) k).address x (clock_step (decode_table t) k time)) (go_same w) G)
+        (λ f w. subst (λ (x : Option ℕ). Good u (slot (decode_table t) k).address x (clock_step (decode_table u) k time)) (go_same w) H))
 
     expire-alike : AlikeLeft (expires t time) (expires u time)
     expire-alike = go (due_slot (decode_table t) time) refl
       where
-        go : (f : Found) → due_slot (decode_table t) time ≡ f → AlikeLeft (expires t time) (expires u time)
-        go (found.At k) e = rw (takes t time k S.sound₁ e, takes u time k S.sound₂ (due-alike time ∙ e)) (expire-due-alike k e)
-        go found.Nothing e =
-            let d : due_slot (decode_table u) time ≡ found.Nothing = due-alike time ∙ e in
+        go : (f : Option ℕ) → due_slot (decode_table t) time ≡ f → AlikeLeft (expires t time) (expires u time)
+        go (Some k) e = rw (takes t time k S.sound₁ e, takes u time k S.sound₂ (due-alike time ∙ e)) (expire-due-alike k e)
+        go None e =
+            let d : due_slot (decode_table u) time ≡ None = due-alike time ∙ e in
             record {
               answer = none-answer t time S.sound₁ e ∙ sym (none-answer u time S.sound₂ d);
               left = rw (expire-keeps-none t time S.bytes₁ e, expire-keeps-none u time S.bytes₂ d) S;
@@ -333,12 +327,12 @@ module _ (t u : List ℕ) (S : SameContents t u) where
   write-parts-alike sequence status group counter token rest out =
       write-parts-isolated t u sequence status group counter token rest out S.sound₁ S.sound₂ (sym (groups-alike (decode_table t) (decode_table u) size S.table))
 
-  write-record-by : (E : Entry) (sequence : ℕ) (value out : List ℕ) → writes_record_by E t sequence value out ≡ writes_record_by E u sequence value out
+  write-record-by : (E : Result (Option ℕ) Refusal) (sequence : ℕ) (value out : List ℕ) → writes_record_by E t sequence value out ≡ writes_record_by E u sequence value out
   unfolding writes_record_by
-  write-record-by entry-is.Unsound sequence value out = refl
-  write-record-by entry-is.Unusable sequence value out = refl
-  write-record-by entry-is.Absent sequence value out = refl
-  write-record-by (entry-is.At k) sequence value out =
+  write-record-by (Err why.Unsound) sequence value out = refl
+  write-record-by (Err why.Address) sequence value out = refl
+  write-record-by (Ok None) sequence value out = refl
+  write-record-by (Ok (Some k)) sequence value out =
       rw (groups-alike (decode_table t) (decode_table u) size S.table, slot-alike (decode_table t) (decode_table u) size S.table k) refl
 
   write-record-alike : (a : List ℕ) (sequence : ℕ) (value out : List ℕ) → writes_record t a sequence value out ≡ writes_record u a sequence value out
@@ -349,7 +343,7 @@ module _ (t u : List ℕ) (S : SameContents t u) where
   unfolding good_count slot
   good-alike =
       let e : good_count (decode_table u) ≡ good_count (decode_table t) = ap good_count S.table in
-      sound-answered t S.bytes₁ S.sound₁ ∙ ap asked.Number (sym e) ∙ sym (sound-answered u S.bytes₂ S.sound₂)
+      sound-answered t S.bytes₁ S.sound₁ ∙ ap Ok (sym e) ∙ sym (sound-answered u S.bytes₂ S.sound₂)
 
   deadline-alike : (time : ℕ) → asks_deadline t time ≡ asks_deadline u time
   unfolding asks_deadline next_deadline slot
@@ -360,7 +354,7 @@ module _ (t u : List ℕ) (S : SameContents t u) where
   -- WHERE A RECORD LIES: the same slot, or the same refusal, each in its own form
   pub find-alike : (a : List ℕ) → (asks_offset t a ≡ offset_by (entry t a) (width_of t)) × (asks_offset u a ≡ offset_by (entry t a) (width_of u))
   unfolding asks_offset
-  find-alike a = (refl, ap (λ (E : Entry). offset_by E (width_of u)) (entry-alike a))
+  find-alike a = (refl, ap (λ (E : Result (Option ℕ) Refusal). offset_by E (width_of u)) (entry-alike a))
 
   -- ---- every further call: the same reply, and tables that stay alike
 

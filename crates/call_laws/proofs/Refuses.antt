@@ -7,35 +7,26 @@ use native.Mathlib.Omega.{arith}
 use lib.Dec.{eqb, ltb}
 use lib.ListN.{length}
 use borrow.Author.Tests.{eq-eqb, ne_eqb, ltb-true, not-true}
-use Rattle.std.specs.Prelude.{if◌then◌else◌}
+use Rattle.std.specs.Prelude.{if◌then◌else◌, Option, Some, None, Result, Ok, Err}
+use Rattle.causes.specs.Causes.{number}
 use Rattle.octets.specs.Octets.{put}
-use Rattle.octets.specs.declared.Found.{Found}
-use Rattle.octets.specs.declared.Found.TheVariants as found
 use Rattle.octets.proofs.Scan.{clash, and_left, and_right, and_both}
 use Rattle.groups.specs.Groups.{fresh_ok}
 use Rattle.frame.specs.Writing.{Drawn, Octets, Outside, parts_body, written, leaves}
-use Rattle.frame.specs.declared.Written.TheVariants as written_is
 use Rattle.record.specs.declared.Settings.{Settings}
 use Rattle.record.specs.declared.Form.{Form}
 use Rattle.record.specs.Layout.{width_in, groups_of}
 use Rattle.table.specs.Table.{Table, decode_table, slot, finds, look_by, look, sound, entry}
-use Rattle.table.specs.declared.Entry.{Entry}
-use Rattle.table.specs.declared.Entry.TheVariants as entry-is
 use Rattle.initial.specs.Initial.{slots_for, initial_ok, initial_table}
 use Rattle.rules.specs.Book.{◌is◌, has_run, Step}
 use Rattle.rule_laws.specs.Slots.{is_no_slot}
 use Rattle.rule_laws.proofs.Slots.{frame_refused, start-refused}
 use Rattle.message.specs.View.{view}
-use Rattle.answers.specs.declared.Refusal.{Refusal}
-use Rattle.answers.specs.declared.Refusal.TheVariants as why
-use Rattle.answers.specs.declared.Turn.{Turn}
-use Rattle.answers.specs.declared.Turn.TheVariants.{Refused, Go}
-use Rattle.answers.specs.declared.Outcome.{Outcome}
-use Rattle.answers.specs.declared.Outcome.TheVariants as outcome
-use Rattle.answers.specs.declared.Answer.{Answer}
-use Rattle.answers.specs.Answers.{number, returned, ends, seating, finish_at, finishes, turned, refuse, refused, said, quiet, none_due}
-use Rattle.writer.specs.declared.Wrote.{Wrote}
-use Rattle.writer.specs.declared.Wrote.TheVariants as wrote
+use Rattle.causes.specs.declared.Refusal.{Refusal}
+use Rattle.causes.specs.declared.Refusal.TheVariants as why
+use Rattle.answers.specs.Outcome.{Outcome}
+use Rattle.answers.specs.Outcome as outcome
+use Rattle.answers.specs.Answers.{Told, returned, ends, seating, finish_at, finishes, turned, refuse, refused, said, quiet, none_due}
 use Rattle.writer.specs.Writer.{refuse_out, wrote_of, draws, writes_parts, record_body, writes_record_by, writes_record}
 use Rattle.moves.specs.declared.Direction.{Direction}
 use Rattle.moves.specs.declared.Direction.TheVariants.{Forward, Back}
@@ -182,7 +173,7 @@ initialize-refuses f t own s = go (initial_ok f s own (length t))
 
 -- ---- Start
 
-start-outcome : (t a fresh : List ℕ) (time : ℕ) (f : Found) → finds (decode_table t) a ≡ f
+start-outcome : (t a fresh : List ℕ) (time : ℕ) (f : Option ℕ) → finds (decode_table t) a ≡ f
     → (turned (admit_start (decode_table t) f fresh) (λ g. start_step (decode_table t) g a time fresh) t a).answer.outcome
     ≡ (if not (fresh_ok (width_in (decode_table t).header) (groups_of (decode_table t).header) fresh) then outcome.Refused why.Fresh
     else if has_run (look (decode_table t) a) then outcome.Refused why.Running
@@ -191,16 +182,16 @@ start-outcome : (t a fresh : List ℕ) (time : ℕ) (f : Found) → finds (decod
 unfolding admit_start start_step absent
 start-outcome t a fresh time f e =
     outcome-if _ t a (not (fresh_ok (width_in (decode_table t).header) (groups_of (decode_table t).header) fresh)) why.Fresh _ _
-    (rw (← look-found (decode_table t) a f e, e) (outcome-if _ t a (has_run (look_by (decode_table t) f)) why.Running (Go f) _
+    (rw (← look-found (decode_table t) a f e, e) (outcome-if _ t a (has_run (look_by (decode_table t) f)) why.Running (Ok f) _
     (go-outcome _ t a f ∙ ap (λ (b : Bool). if b then outcome.Refused why.Full else outcome.Done) (start-refused _ _ (look_by (decode_table t) f)))))
 
-start-refuses-by : (t a fresh : List ℕ) (time : ℕ) (E : Entry) → Came t a E
+start-refuses-by : (t a fresh : List ℕ) (time : ℕ) (E : Result (Option ℕ) Refusal) → Came t a E
     → (turned (start_turn E t fresh) (λ f. start_step (decode_table t) f a time fresh) t a).answer.outcome ≡ first_cause outcome.Refused (start_causes t a fresh) outcome.Done
 unfolding start_turn first_cause start_causes turned refused
 start-refuses-by t a fresh time E (unsound s) = rw s
 start-refuses-by t a fresh time E (unusable s u) = rw (s, u)
-start-refuses-by t a fresh time E (lacks s u f) = rw (s, u) (start-outcome t a fresh time found.Nothing f)
-start-refuses-by t a fresh time E (has {k} s u f) = rw (s, u) (start-outcome t a fresh time (found.At k) f)
+start-refuses-by t a fresh time E (lacks s u f) = rw (s, u) (start-outcome t a fresh time None f)
+start-refuses-by t a fresh time E (has {k} s u f) = rw (s, u) (start-outcome t a fresh time (Some k) f)
 
 pub initiate-refuses : (t a : List ℕ) (time : ℕ) (fresh : List ℕ) → (initiates t a time fresh).answer.outcome ≡ first_cause outcome.Refused (start_causes t a fresh) outcome.Done
 unfolding initiates
@@ -215,12 +206,12 @@ initiate-exact t a time fresh = exact returned outcome.Refused outcome.Done (sta
 
 -- ---- Kill
 
-kill-refuses-by : (t a : List ℕ) (E : Entry) → Came t a E → (turned (kill_turn E) (λ f. kill_step) t a).answer.outcome ≡ first_cause outcome.Refused (kill_causes t a) outcome.Done
+kill-refuses-by : (t a : List ℕ) (E : Result (Option ℕ) Refusal) → Came t a E → (turned (kill_turn E) (λ f. kill_step) t a).answer.outcome ≡ first_cause outcome.Refused (kill_causes t a) outcome.Done
 unfolding kill_turn kill_step first_cause kill_causes absent
 kill-refuses-by t a E (unsound s) = rw s (refuse-outcome _ t a why.Unsound)
 kill-refuses-by t a E (unusable s u) = rw (s, u) (refuse-outcome _ t a why.Address)
 kill-refuses-by t a E (lacks s u f) = rw (s, u, f) (refuse-outcome _ t a why.NoRecord)
-kill-refuses-by t a E (has {k} s u f) = rw (s, u, f) (go-outcome (λ x. kill_step) t a (found.At k))
+kill-refuses-by t a E (has {k} s u f) = rw (s, u, f) (go-outcome (λ x. kill_step) t a (Some k))
 
 pub kill-refuses : (t a : List ℕ) → (kills t a).answer.outcome ≡ first_cause outcome.Refused (kill_causes t a) outcome.Done
 unfolding kills
@@ -235,13 +226,13 @@ kill-exact t a = exact returned outcome.Refused outcome.Done (kill_causes t a) _
 
 -- ---- Frame received
 
-frame-full : (t a : List ℕ) (time : ℕ) (frame fresh expected : List ℕ) (verdict : ℕ) (f : Found) → finds (decode_table t) a ≡ f
+frame-full : (t a : List ℕ) (time : ℕ) (frame fresh expected : List ℕ) (verdict : ℕ) (f : Option ℕ) → finds (decode_table t) a ≡ f
     → (frame_step (decode_table t) f a time frame fresh expected verdict).refused ≡ is_no_slot (frame_names t a time frame fresh expected verdict)
 unfolding frame_step frame_names look
 frame-full t a time frame fresh expected verdict f e =
-    subst (λ (x : Found). (frame_step (decode_table t) x a time frame fresh expected verdict).refused ≡ is_no_slot (frame_names t a time frame fresh expected verdict)) e (frame_refused _ _ _ _)
+    subst (λ (x : Option ℕ). (frame_step (decode_table t) x a time frame fresh expected verdict).refused ≡ is_no_slot (frame_names t a time frame fresh expected verdict)) e (frame_refused _ _ _ _)
 
-frame-outcome : (t a : List ℕ) (time : ℕ) (frame fresh expected : List ℕ) (verdict : ℕ) (f : Found) → finds (decode_table t) a ≡ f
+frame-outcome : (t a : List ℕ) (time : ℕ) (frame fresh expected : List ℕ) (verdict : ℕ) (f : Option ℕ) → finds (decode_table t) a ≡ f
     → (turned (admit_frame (decode_table t) f frame fresh expected verdict) (λ g. frame_step (decode_table t) g a time frame fresh expected verdict) t a).answer.outcome
     ≡ (if not (fresh_ok (width_in (decode_table t).header) (groups_of (decode_table t).header) fresh) then outcome.Refused why.Fresh
     else if not (eqb (length expected) 32) then outcome.Refused why.Token
@@ -254,18 +245,18 @@ frame-outcome t a time frame fresh expected verdict f e =
     outcome-if _ t a (not (fresh_ok (width_in (decode_table t).header) (groups_of (decode_table t).header) fresh)) why.Fresh _ _
     (outcome-if _ t a (not (eqb (length expected) 32)) why.Token _ _
     (outcome-if _ t a (ltb 1 verdict) why.Verdict _ _
-    (outcome-if _ t a ((view (groups_of (decode_table t).header) frame).sequence is 0) why.Body (Go f) _
+    (outcome-if _ t a ((view (groups_of (decode_table t).header) frame).sequence is 0) why.Body (Ok f) _
     (go-outcome _ t a f
     ∙ ap (λ (b : Bool). if b then outcome.Refused why.Full else outcome.Done) (frame-full t a time frame fresh expected verdict f e)))))
 
-frame-refuses-by : (t a : List ℕ) (time : ℕ) (frame fresh expected : List ℕ) (verdict : ℕ) (E : Entry) → Came t a E
+frame-refuses-by : (t a : List ℕ) (time : ℕ) (frame fresh expected : List ℕ) (verdict : ℕ) (E : Result (Option ℕ) Refusal) → Came t a E
     → (turned (frame_turn E t frame fresh expected verdict) (λ f. frame_step (decode_table t) f a time frame fresh expected verdict) t a).answer.outcome
     ≡ first_cause outcome.Refused (frame_causes t a time frame fresh expected verdict) outcome.Done
 unfolding frame_turn first_cause frame_causes
 frame-refuses-by t a time frame fresh expected verdict E (unsound s) = rw s (refuse-outcome _ t a why.Unsound)
 frame-refuses-by t a time frame fresh expected verdict E (unusable s u) = rw (s, u) (refuse-outcome _ t a why.Address)
-frame-refuses-by t a time frame fresh expected verdict E (lacks s u f) = rw (s, u) (frame-outcome t a time frame fresh expected verdict found.Nothing f)
-frame-refuses-by t a time frame fresh expected verdict E (has {k} s u f) = rw (s, u) (frame-outcome t a time frame fresh expected verdict (found.At k) f)
+frame-refuses-by t a time frame fresh expected verdict E (lacks s u f) = rw (s, u) (frame-outcome t a time frame fresh expected verdict None f)
+frame-refuses-by t a time frame fresh expected verdict E (has {k} s u f) = rw (s, u) (frame-outcome t a time frame fresh expected verdict (Some k) f)
 
 pub receive-refuses : (t a : List ℕ) (time : ℕ) (frame fresh expected : List ℕ) (verdict : ℕ)
     → (receives t a time frame fresh expected verdict).answer.outcome ≡ first_cause outcome.Refused (frame_causes t a time frame fresh expected verdict) outcome.Done
@@ -285,14 +276,14 @@ receive-exact t a time frame fresh expected verdict =
 -- ---- Clock
 
 -- a record that is served, or none
-abbrev pub served : Found → Outcome
-served (found.At k) = outcome.Done
-served found.Nothing = outcome.NoneDue
+abbrev pub served : Option ℕ → Outcome
+served (Some k) = outcome.Done
+served None = outcome.NoneDue
 
-serve-outcome : (f : Found) (t : List ℕ) (time : ℕ) → (expires_by f t time).answer.outcome ≡ served f
+serve-outcome : (f : Option ℕ) (t : List ℕ) (time : ℕ) → (expires_by f t time).answer.outcome ≡ served f
 unfolding expires_by ends none_due said
-serve-outcome (found.At k) t time = ap (λ (r : Answer). r.outcome) (due-answer t time k)
-serve-outcome found.Nothing t time = refl
+serve-outcome (Some k) t time = ap (λ (r : Told). r.outcome) (due-answer t time k)
+serve-outcome None t time = refl
 
 pub expire-refuses : (t : List ℕ) (time : ℕ) → (expires t time).answer.outcome ≡ first_cause outcome.Refused (clock_causes t) (served (due_slot (decode_table t) time))
 unfolding expires first_cause clock_causes refused
@@ -307,9 +298,9 @@ clock-rises : (t : List ℕ) → rising 0 (clock_causes t) ≡ true
 unfolding rising clock_causes
 clock-rises t = refl
 
-served-zero : (f : Found) → returned (served f) ≡ 0
-served-zero (found.At k) = refl
-served-zero found.Nothing = refl
+served-zero : (f : Option ℕ) → returned (served f) ≡ 0
+served-zero (Some k) = refl
+served-zero None = refl
 
 pub expire-exact : (t : List ℕ) (time : ℕ) → Exact (returned (expires t time).answer.outcome) (clock_causes t)
 expire-exact t time =
@@ -332,28 +323,28 @@ drawn_length Outside = 0
 drawn_length (Octets s) = length s
 
 -- what a writer returns: 0, or the cause's number
-abbrev pub returned_by : Wrote → ℕ
-returned_by (wrote.Length n) = 0
-returned_by (wrote.Refused c) = number c
+abbrev pub returned_by : Result ℕ Refusal → ℕ
+returned_by (Ok n) = 0
+returned_by (Err c) = number c
 
-draws_answer : (d : Drawn) (out : List ℕ) → (draws d out).answer ≡ (if outside d then wrote.Refused why.Body else if longer d out then wrote.Refused why.Short else wrote.Length (drawn_length d))
+draws_answer : (d : Drawn) (out : List ℕ) → (draws d out).answer ≡ (if outside d then Err why.Body else if longer d out then Err why.Short else Ok (drawn_length d))
 unfolding draws written
 draws_answer Outside out = refl
 draws_answer (Octets s) out = go (ltb (length out) (length s))
   where
-    go : (b : Bool) → wrote_of (if b then written_is.Short else written_is.Length (length s)) ≡ (if b then wrote.Refused why.Short else wrote.Length (length s))
+    go : (b : Bool) → wrote_of (if b then (Err why.Short) else Ok (length s)) ≡ (if b then Err why.Short else Ok (length s))
     go true = refl
     go false = refl
 
 pub write-parts-refuses : (t : List ℕ) (sequence status group counter : ℕ) (token rest out : List ℕ)
     → (writes_parts t sequence status group counter token rest out).answer
-    ≡ first_cause wrote.Refused (parts_causes t (parts_body (groups_of (decode_table t).header) sequence status group counter token rest) out)
-    (wrote.Length (drawn_length (parts_body (groups_of (decode_table t).header) sequence status group counter token rest)))
+    ≡ first_cause Err (parts_causes t (parts_body (groups_of (decode_table t).header) sequence status group counter token rest) out)
+    (Ok (drawn_length (parts_body (groups_of (decode_table t).header) sequence status group counter token rest)))
 unfolding writes_parts first_cause parts_causes
 write-parts-refuses t sequence status group counter token rest out = go (sound t) (parts_body (groups_of (decode_table t).header) sequence status group counter token rest)
   where
     go : (b : Bool) (d : Drawn) → (if b then draws d out else refuse_out out why.Unsound).answer
-        ≡ (if not b then wrote.Refused why.Unsound else if outside d then wrote.Refused why.Body else if longer d out then wrote.Refused why.Short else wrote.Length (drawn_length d))
+        ≡ (if not b then Err why.Unsound else if outside d then Err why.Body else if longer d out then Err why.Short else Ok (drawn_length d))
     go true d = draws_answer d out
     go false d = refl
 
@@ -365,18 +356,18 @@ pub write-parts-exact : (t : List ℕ) (sequence status group counter : ℕ) (to
     → Exact (returned_by (writes_parts t sequence status group counter token rest out).answer)
     (parts_causes t (parts_body (groups_of (decode_table t).header) sequence status group counter token rest) out)
 write-parts-exact t sequence status group counter token rest out =
-    exact returned_by wrote.Refused _ _ _ (λ c. refl) refl (parts-rises t _ out) (write-parts-refuses t sequence status group counter token rest out)
+    exact returned_by Err _ _ _ (λ c. refl) refl (parts-rises t _ out) (write-parts-refuses t sequence status group counter token rest out)
 
 -- what is drawn for an address: its record's frame
 abbrev pub drawn_record : List ℕ → List ℕ → ℕ → List ℕ → Drawn
 drawn_record t a sequence value = record_body (groups_of (decode_table t).header) (look (decode_table t) a) sequence value
 
-slot-look : (T : Table) (a : List ℕ) (k : ℕ) → finds T a ≡ found.At k → slot T k ≡ look T a
+slot-look : (T : Table) (a : List ℕ) (k : ℕ) → finds T a ≡ Some k → slot T k ≡ look T a
 unfolding look look_by
 slot-look T a k e = ap (look_by T) (sym e)
 
-write-record-by : (t a : List ℕ) (sequence : ℕ) (value out : List ℕ) (E : Entry) → Came t a E
-    → (writes_record_by E t sequence value out).answer ≡ first_cause wrote.Refused (record_causes t a (drawn_record t a sequence value) out) (wrote.Length (drawn_length (drawn_record t a sequence value)))
+write-record-by : (t a : List ℕ) (sequence : ℕ) (value out : List ℕ) (E : Result (Option ℕ) Refusal) → Came t a E
+    → (writes_record_by E t sequence value out).answer ≡ first_cause Err (record_causes t a (drawn_record t a sequence value) out) (Ok (drawn_length (drawn_record t a sequence value)))
 unfolding writes_record_by first_cause record_causes absent
 write-record-by t a sequence value out E (unsound s) = rw s
 write-record-by t a sequence value out E (unusable s u) = rw (s, u)
@@ -386,7 +377,7 @@ write-record-by t a sequence value out E (has {k} s u f) =
     rw (s, u, f, ← e) (draws_answer (record_body (groups_of (decode_table t).header) (slot (decode_table t) k) sequence value) out)
 
 pub write-record-refuses : (t a : List ℕ) (sequence : ℕ) (value out : List ℕ)
-    → (writes_record t a sequence value out).answer ≡ first_cause wrote.Refused (record_causes t a (drawn_record t a sequence value) out) (wrote.Length (drawn_length (drawn_record t a sequence value)))
+    → (writes_record t a sequence value out).answer ≡ first_cause Err (record_causes t a (drawn_record t a sequence value) out) (Ok (drawn_length (drawn_record t a sequence value)))
 unfolding writes_record
 write-record-refuses t a sequence value out = write-record-by t a sequence value out (entry t a) (came t a)
 
@@ -396,19 +387,19 @@ record-rises t a d out = refl
 
 pub write-record-exact : (t a : List ℕ) (sequence : ℕ) (value out : List ℕ)
     → Exact (returned_by (writes_record t a sequence value out).answer) (record_causes t a (drawn_record t a sequence value) out)
-write-record-exact t a sequence value out = exact returned_by wrote.Refused _ _ _ (λ c. refl) refl (record-rises t a _ out) (write-record-refuses t a sequence value out)
+write-record-exact t a sequence value out = exact returned_by Err _ _ _ (λ c. refl) refl (record-rises t a _ out) (write-record-refuses t a sequence value out)
 
 -- ---- A REFUSAL leaves every lent octet
 
-refused-turn : (w : Turn) (g : Found → Step) (t a : List ℕ) (c : Refusal) → (turned w g t a).answer.outcome ≡ outcome.Refused c → (turned w g t a).table ≡ t
+refused-turn : (w : Result (Option ℕ) Refusal) (g : Option ℕ → Step) (t a : List ℕ) (c : Refusal) → (turned w g t a).answer.outcome ≡ outcome.Refused c → (turned w g t a).table ≡ t
 unfolding turned refused said finishes finish_at ends
-refused-turn (Refused d) g t a c e = refl
-refused-turn (Go f) g t a c e = go (g f).refused (seating (decode_table t) f) e
+refused-turn (Err d) g t a c e = refl
+refused-turn (Ok f) g t a c e = go (g f).refused (seating (decode_table t) f) e
   where
-    go : (b : Bool) (x : Found) → (if b then refuse t why.Full else finish_at x t (g f) a).answer.outcome ≡ outcome.Refused c → (if b then refuse t why.Full else finish_at x t (g f) a).table ≡ t
+    go : (b : Bool) (x : Option ℕ) → (if b then refuse t why.Full else finish_at x t (g f) a).answer.outcome ≡ outcome.Refused c → (if b then refuse t why.Full else finish_at x t (g f) a).table ≡ t
     go true x q = refl
-    go false (found.At k) q = let z : ◌≡◌ {A = ℕ} 0 1 = cc in absurd (omega arith)
-    go false found.Nothing q = let z : ◌≡◌ {A = ℕ} 0 1 = cc in absurd (omega arith)
+    go false (Some k) q = let z : ◌≡◌ {A = ℕ} 0 1 = cc in absurd (omega arith)
+    go false None q = let z : ◌≡◌ {A = ℕ} 0 1 = cc in absurd (omega arith)
 
 pub initialize-refused : (f : Form) (t own : List ℕ) (s : Settings) (c : Refusal) → (initializes f t own s).answer.outcome ≡ outcome.Refused c → (initializes f t own s).table ≡ t
 unfolding initializes ends quiet
@@ -436,9 +427,9 @@ pub expire-refused : (t : List ℕ) (time : ℕ) (c : Refusal) → (expires t ti
 unfolding expires
 expire-refused t time c e = go (sound t) e
   where
-    due : (f : Found) → served f ≡ outcome.Refused c → (expires_by f t time).table ≡ t
-    due (found.At k) q = let z : ◌≡◌ {A = ℕ} 0 1 = cc in absurd (omega arith)
-    due found.Nothing q = let z : ◌≡◌ {A = ℕ} 0 1 = cc in absurd (omega arith)
+    due : (f : Option ℕ) → served f ≡ outcome.Refused c → (expires_by f t time).table ≡ t
+    due (Some k) q = let z : ◌≡◌ {A = ℕ} 0 1 = cc in absurd (omega arith)
+    due None q = let z : ◌≡◌ {A = ℕ} 0 1 = cc in absurd (omega arith)
 
     go : (b : Bool) → (if b then expires_by (due_slot (decode_table t) time) t time else refuse t why.Unsound).answer.outcome ≡ outcome.Refused c
         → (if b then expires_by (due_slot (decode_table t) time) t time else refuse t why.Unsound).table ≡ t
@@ -446,34 +437,34 @@ expire-refused t time c e = go (sound t) e
     go false q = refl
 
 -- a writer that refuses leaves the buffer
-draws-refused : (d : Drawn) (out : List ℕ) (c : Refusal) → (draws d out).answer ≡ wrote.Refused c → (draws d out).out ≡ out
+draws-refused : (d : Drawn) (out : List ℕ) (c : Refusal) → (draws d out).answer ≡ Err c → (draws d out).out ≡ out
 unfolding draws written leaves
 draws-refused Outside out c e = refl
 draws-refused (Octets s) out c e = go (ltb (length out) (length s)) e
   where
-    go : (b : Bool) → wrote_of (if b then written_is.Short else written_is.Length (length s)) ≡ wrote.Refused c → (if b then out else put out 0 s) ≡ out
+    go : (b : Bool) → wrote_of (if b then (Err why.Short) else Ok (length s)) ≡ Err c → (if b then out else put out 0 s) ≡ out
     go true q = refl
     go false q = let z : ◌≡◌ {A = ℕ} 0 1 = cc in absurd (omega arith)
 
 pub write-parts-refused : (t : List ℕ) (sequence status group counter : ℕ) (token rest out : List ℕ) (c : Refusal)
-    → (writes_parts t sequence status group counter token rest out).answer ≡ wrote.Refused c → (writes_parts t sequence status group counter token rest out).out ≡ out
+    → (writes_parts t sequence status group counter token rest out).answer ≡ Err c → (writes_parts t sequence status group counter token rest out).out ≡ out
 unfolding writes_parts
 write-parts-refused t sequence status group counter token rest out c e = go (sound t) (parts_body (groups_of (decode_table t).header) sequence status group counter token rest) e
   where
-    go : (b : Bool) (d : Drawn) → (if b then draws d out else refuse_out out why.Unsound).answer ≡ wrote.Refused c → (if b then draws d out else refuse_out out why.Unsound).out ≡ out
+    go : (b : Bool) (d : Drawn) → (if b then draws d out else refuse_out out why.Unsound).answer ≡ Err c → (if b then draws d out else refuse_out out why.Unsound).out ≡ out
     go true d q = draws-refused d out c q
     go false d q = refl
 
 pub write-record-refused : (t a : List ℕ) (sequence : ℕ) (value out : List ℕ) (c : Refusal)
-    → (writes_record t a sequence value out).answer ≡ wrote.Refused c → (writes_record t a sequence value out).out ≡ out
+    → (writes_record t a sequence value out).answer ≡ Err c → (writes_record t a sequence value out).out ≡ out
 unfolding writes_record writes_record_by
 write-record-refused t a sequence value out c e = go (entry t a) e
   where
-    go : (E : Entry) → (writes_record_by E t sequence value out).answer ≡ wrote.Refused c → (writes_record_by E t sequence value out).out ≡ out
-    go entry-is.Unsound q = refl
-    go entry-is.Unusable q = refl
-    go entry-is.Absent q = refl
-    go (entry-is.At k) q = draws-refused _ out c q
+    go : (E : Result (Option ℕ) Refusal) → (writes_record_by E t sequence value out).answer ≡ Err c → (writes_record_by E t sequence value out).out ≡ out
+    go (Err why.Unsound) q = refl
+    go (Err why.Address) q = refl
+    go (Ok None) q = refl
+    go (Ok (Some k)) q = draws-refused _ out c q
 
 -- ---- a move, in either direction
 

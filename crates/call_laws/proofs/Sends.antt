@@ -1,4 +1,5 @@
 -- WHAT A CALL SENDS the writer can write from the table just left, and a reader whose list has the group reads it back.
+use Rattle.std.specs.Prelude.{Option, Some, None, Result, Ok}
 use mathlib.Core.Path.{◌≡◌, refl, sym, ap, ◌∙◌, subst}
 use mathlib.Core.Logic.{◌⊎◌, inl, inr}
 use mathlib.Core.Bool.{Bool, true, false}
@@ -9,8 +10,6 @@ use lib.Dec.{lit<}
 use lib.ListN.{length, take, length-take}
 use borrow.Author.Tests.{eq-eqb, ne_eqb, le-ltb}
 use Rattle.octets.specs.Octets.{Bytes}
-use Rattle.octets.specs.declared.Found.{Found}
-use Rattle.octets.specs.declared.Found.TheVariants as found
 use Rattle.groups.specs.Groups.{listed, commit_length}
 use Rattle.groups.proofs.Laws.{commit-fits}
 use Rattle.frame.specs.Frame.{commit_body, token_request_body, group_refusal_body, confirm_body}
@@ -24,8 +23,6 @@ use Rattle.record.specs.Layout.{counted, no_peer, no_run, no_link}
 use Rattle.soundness.specs.Soundness.{usable, run_ok}
 use Rattle.soundness.proofs.Laws.{run-is-committed, run-is-confirmed, run-states}
 use Rattle.table.specs.Table.{decode_table, slot, finds, look_by, look, sound, entry, found_entry}
-use Rattle.table.specs.declared.Entry.{Entry}
-use Rattle.table.specs.declared.Entry.TheVariants as entry-is
 use Rattle.table.proofs.Laws.{found_below}
 use Rattle.rules.specs.declared.Frame.{Frame}
 use Rattle.rules.specs.declared.Frames.{Frames}
@@ -33,11 +30,8 @@ use Rattle.rules.specs.Book.{Step}
 use Rattle.message.specs.View.{message}
 use Rattle.rule_laws.proofs.Keeps.{Kept, parts}
 use Rattle.rule_laws.proofs.Tells.{Told, a_commit, a_confirm, an_answer, a_request, a_refusal, Tells, tell_none, tell_one, tell_two, Truthful, States, frame-tells, start-tells, clock-tells}
-use Rattle.answers.specs.declared.Refusal.{Refusal}
-use Rattle.answers.specs.declared.Turn.{Turn}
-use Rattle.answers.specs.declared.Turn.TheVariants.{Go}
-use Rattle.answers.specs.declared.Answer.{Answer}
-use Rattle.answers.specs.Answers.{Left, ends, turned, refuse, refused, said, none_due}
+use Rattle.causes.specs.declared.Refusal.{Refusal}
+use Rattle.answers.specs.Answers.{Told, Left, ends, turned, refuse, refused, said, none_due}
 use Rattle.answers.proofs.Ending.{Finished, Turned, denied, done, turn-ends}
 use Rattle.writer.specs.Writer.{draws, writes_parts, record_commit, record_confirm, record_body, writes_record_by, writes_record}
 use Rattle.calls.specs.Calls.{start_step, initiates, kill_turn, kill_step, kills, frame_step, receives, due_slot, clock_step, expires_by, expires}
@@ -50,14 +44,14 @@ use Rattle.call_laws.proofs.Good.{own_in, groups_in, high_in, slot_kept, entered
 -- an address whose record has a run or a link is in the table
 pub record Seen (t a : List ℕ) : Type 0 where
   pub k : ℕ
-  pub entry : entry t a ≡ entry-is.At k
+  pub entry : entry t a ≡ Ok (Some k)
   pub slot : slot (decode_table t) k ≡ look (decode_table t) a
   pub kept : Kept (own_in t) (groups_in t) (high_in t) (look (decode_table t) a).address (look (decode_table t) a)
 
 module _ (t a : List ℕ) (b : Bytes t) (s : sound t ≡ true) (q : usable (own_in t) a ≡ true) where
-  seen_by : (f : Found) → finds (decode_table t) a ≡ f → (((look (decode_table t) a).run.state ≡ 0) × ((look (decode_table t) a).link.finished ≡ 0) → ⊥) → Seen t a
+  seen_by : (f : Option ℕ) → finds (decode_table t) a ≡ f → (((look (decode_table t) a).run.state ≡ 0) × ((look (decode_table t) a).link.finished ≡ 0) → ⊥) → Seen t a
   unfolding entry found_entry look look_by no_peer no_run no_link
-  seen_by (found.At k) e h =
+  seen_by (Some k) e h =
       let i : slot (decode_table t) k ≡ look (decode_table t) a = ap (look_by (decode_table t)) (sym e) in
       record {
         k = k;
@@ -65,7 +59,7 @@ module _ (t a : List ℕ) (b : Bytes t) (s : sound t ≡ true) (q : usable (own_
         slot = i;
         kept = subst (λ (p : Peer). Kept (own_in t) (groups_in t) (high_in t) p.address p) i (slot_kept t s b k (found_below (decode_table t) a k e).0);
       }
-  seen_by found.Nothing e h = absurd (h (rw e, rw e))
+  seen_by None e h = absurd (h (rw e, rw e))
 
   seen : (((look (decode_table t) a).run.state ≡ 0) × ((look (decode_table t) a).link.finished ≡ 0) → ⊥) → Seen t a
   seen h = seen_by (finds (decode_table t) a) refl h
@@ -73,7 +67,7 @@ module _ (t a : List ℕ) (b : Bytes t) (s : sound t ≡ true) (q : usable (own_
   seen-writes : Seen t a → (sequence : ℕ) (value out : List ℕ) (d : Drawn) → record_body (groups_in t) (look (decode_table t) a) sequence value ≡ d → writes_record t a sequence value out ≡ draws d out
   unfolding writes_record writes_record_by
   seen-writes S sequence value out d e =
-      ap (λ (E : Entry). writes_record_by E t sequence value out) S.entry
+      ap (λ (E : Result (Option ℕ) Refusal). writes_record_by E t sequence value out) S.entry
       ∙ ap (λ (p : Peer). draws (record_body (groups_in t) p sequence value) out) S.slot ∙ ap (λ (x : Drawn). draws x out) e
 
 -- ---- a run's Commit
@@ -217,14 +211,14 @@ finish-writes : (t a : List ℕ) (s : Step) (l : Left) → usable (own_in t) a �
 unfolding said
 finish-writes t a s l q F T =
     let o : own_in l.table ≡ own_in t = own-kept (decode_table t).header (decode_table l.table).header _ F.header in
-    subst (Writables l.table a) (sym (ap (λ (r : Answer). r.frames) F.answer))
+    subst (Writables l.table a) (sym (ap (λ (r : Told). r.frames) F.answer))
     (tells-written l.table a F.bytes F.sound (subst (λ (x : List ℕ). usable x a ≡ true) (sym o) q) s.frames (subst (λ (p : Peer). Tells p s.frames) (sym F.here) T.tells))
 
 refused-writes : (t a : List ℕ) (c : Refusal) (l : Left) → l ≡ refuse t c → Writables l.table a l.answer.frames
 unfolding refused
 refused-writes t a c l e = subst (λ (x : Left). Writables x.table a x.answer.frames) (sym e) write_none
 
-turn-writes : (w : Turn) (g : Found → Step) (t a : List ℕ) → ((f : Found) → w ≡ Go f → (usable (own_in t) a ≡ true) × Truthful (g f)) → Turned w g t a
+turn-writes : (w : Result (Option ℕ) Refusal) (g : Option ℕ → Step) (t a : List ℕ) → ((f : Option ℕ) → w ≡ Ok f → (usable (own_in t) a ≡ true) × Truthful (g f)) → Turned w g t a
     → Writables (turned w g t a).table a (turned w g t a).answer.frames
 turn-writes w g t a T (denied c e) = refused-writes t a c _ e
 turn-writes w g t a T (done f e F) = let h = T f e in finish-writes t a (g f) _ h.0 F h.1
@@ -254,9 +248,9 @@ receive-writes t a time frame fresh expected verdict b la ba ht br bf be hv =
     (entered-usable t a f c, frame-tells _ _ _ _ (viewed (groups_in t) frame br).group (kept-states _ _ _ a _ (entered-kept t a b la ba f c))))
     (turn-ends _ _ t a b la ba (λ f e. receive_good t a time frame fresh expected verdict f b la ba ht br bf be hv e))
 
-kill-none : (t a : List ℕ) (r : Answer) → r ≡ said kill_step a → Writables t a r.frames
+kill-none : (t a : List ℕ) (r : Told) → r ≡ said kill_step a → Writables t a r.frames
 unfolding said kill_step
-kill-none t a r e = subst (λ (x : Answer). Writables t a x.frames) (sym e) write_none
+kill-none t a r e = subst (λ (x : Told). Writables t a x.frames) (sym e) write_none
 
 said-address : (s : Step) (a : List ℕ) → (said s a).address ≡ a
 unfolding said
@@ -267,7 +261,7 @@ AtItsAddress l = Writables l.table l.answer.address l.answer.frames
 
 finish-writes-at : (t a : List ℕ) (s : Step) (l : Left) → usable (own_in t) a ≡ true → Finished t a s l → Truthful s → AtItsAddress l
 finish-writes-at t a s l q F T =
-    subst (λ (x : List ℕ). Writables l.table x l.answer.frames) (sym (ap (λ (r : Answer). r.address) F.answer ∙ said-address s a)) (finish-writes t a s l q F T)
+    subst (λ (x : List ℕ). Writables l.table x l.answer.frames) (sym (ap (λ (r : Told). r.address) F.answer ∙ said-address s a)) (finish-writes t a s l q F T)
 
 -- set up and kill send nothing; the clock's answer has the address
 pub kill-writes : (t a : List ℕ) → Bytes t → length a ≡ 6 → Bytes a → Writables (kills t a).table a (kills t a).answer.frames
@@ -279,7 +273,7 @@ kill-writes t a b la ba = go (turn-ends _ _ t a b la ba (λ f e. kill_good t a f
     go (done f e F) = kill-none _ a _ F.answer
 
 module _ (t : List ℕ) (time : ℕ) (b : Bytes t) (ht : time < 2 ^ 32) where
-  clock-step-tells : (k : ℕ) → sound t ≡ true → due_slot (decode_table t) time ≡ found.At k → Truthful (clock_step (decode_table t) k time)
+  clock-step-tells : (k : ℕ) → sound t ≡ true → due_slot (decode_table t) time ≡ Some k → Truthful (clock_step (decode_table t) k time)
   unfolding clock_step
   clock-step-tells k s e = clock-tells _ _ _ (kept-states _ _ _ _ _ (due-kept t time k b s e))
 
@@ -287,9 +281,9 @@ module _ (t : List ℕ) (time : ℕ) (b : Bytes t) (ht : time < 2 ^ 32) where
   unfolding expires expires_by ends refused none_due
   expire-writes = go (sound t) refl (due_slot (decode_table t) time) refl
     where
-      go : (x : Bool) → sound t ≡ x → (f : Found) → due_slot (decode_table t) time ≡ f → AtItsAddress (expires t time)
-      go true s (found.At k) e =
+      go : (x : Bool) → sound t ≡ x → (f : Option ℕ) → due_slot (decode_table t) time ≡ f → AtItsAddress (expires t time)
+      go true s (Some k) e =
           subst AtItsAddress (sym (takes t time k s e))
           (finish-writes-at t _ _ _ (due-place t time k b s e).usable (clock-ends t time k s e b ht) (clock-step-tells k s e))
-      go true s found.Nothing e = rw (s, e) write_none
+      go true s None e = rw (s, e) write_none
       go false s f e = rw s write_none

@@ -8,16 +8,14 @@ use native.Mathlib.Omega.{arith}
 use lib.Dec.{ltb}
 use lib.ListN.{length}
 use borrow.Author.Tests.{eqb-true, ltb-true, ltb-false}
-use Rattle.std.specs.Prelude.{if◌then◌else◌}
+use Rattle.std.specs.Prelude.{if◌then◌else◌, Option, Some, None, Result, Ok, Err}
 use Rattle.octets.specs.Octets.{Bytes, part, same_address}
-use Rattle.octets.specs.declared.Found.{Found}
-use Rattle.octets.specs.declared.Found.TheVariants as found
 use Rattle.octets.proofs.Scan.{clash, cases}
 use Rattle.record.specs.declared.Settings.{Settings}
 use Rattle.record.specs.Layout.{record_size, record_at, form_of}
 use Rattle.record.proofs.Laws.{shape-peer, record-below}
 use Rattle.table.specs.Table.{width_of, decode_table, slot, slots, in_use, belongs, look, placed, sound}
-use Rattle.table.proofs.Laws.{entry_at, found_below, sound-whole, free-below-law}
+use Rattle.table.proofs.Laws.{entry-found, found_below, sound-whole, free-below-law}
 use Rattle.table.proofs.Kept.{sound-form}
 use Rattle.table.proofs.Octets.{Elsewhere, before_counts, between_counts, before_record, past_record, after-header, placed-outside}
 use Rattle.initial.specs.Initial.{initial_ok}
@@ -25,10 +23,8 @@ use Rattle.initial.proofs.Initial.{FitSettings, initial-served, initial-sound, i
 use Rattle.good_links.specs.GoodLinks.{filled, fills}
 use Rattle.good_links.proofs.GoodLinks.{fills-leave}
 use Rattle.rules.specs.Book.{Step}
-use Rattle.answers.specs.declared.Refusal.{Refusal}
-use Rattle.answers.specs.declared.Refusal.TheVariants as why
-use Rattle.answers.specs.declared.Turn.{Turn}
-use Rattle.answers.specs.declared.Turn.TheVariants.{Refused, Go}
+use Rattle.causes.specs.declared.Refusal.{Refusal}
+use Rattle.causes.specs.declared.Refusal.TheVariants as why
 use Rattle.answers.specs.Answers.{Left, ends, seating, finish_at, finishes, turned, refuse, said}
 use Rattle.answers.proofs.Laws.{Entered, old, new, Sits, there, free, entered-seated, sits, sits-below, unchanged-ends}
 use Rattle.answers.proofs.Theorems.{Good}
@@ -67,15 +63,15 @@ keeps-all t a b s = record { table = sound-table t s; bytes = b; elsewhere = λ 
 
 -- the slot that is written is not another record's
 module _ (t a : List ℕ) (j : ℕ) (u : in_use (slot (decode_table t) j) ≡ true) (n : belongs a (slot (decode_table t) j) ≡ false) where
-  other-slot : (f : Found) (k : ℕ) → Entered t a f → Sits (decode_table t) k f → j ≡ k → ⊥
-  other-slot f k (old p) there e = clash (found_below (decode_table t) a k (entry_at t a k p).1.1).1 (subst (λ (i : ℕ). belongs a (slot (decode_table t) i) ≡ false) e n)
+  other-slot : (f : Option ℕ) (k : ℕ) → Entered t a f → Sits (decode_table t) k f → j ≡ k → ⊥
+  other-slot f k (old p) there e = clash (found_below (decode_table t) a k (entry-found t a (Some k) p).1.1).1 (subst (λ (i : ℕ). belongs a (slot (decode_table t) i) ≡ false) e n)
   other-slot f k (new p) (free q) e =
       let z : (slot (decode_table t) k).used ≡ 0 = eqb-true _ _ (free-below-law (decode_table t) k q).1 in
       let w : (slot (decode_table t) j).used ≡ 1 = eqb-true _ _ u in
       let x : (slot (decode_table t) j).used ≡ (slot (decode_table t) k).used = ap (λ (i : ℕ). (slot (decode_table t) i).used) e in
       omega arith
 
-module _ (t a : List ℕ) (b : Bytes t) (f : Found) (s : Step) (G : Good t a f s) where
+module _ (t a : List ℕ) (b : Bytes t) (f : Option ℕ) (s : Step) (G : Good t a f s) where
   -- what is not the record's slot nor a count stays
   finish-outside : (at m : ℕ)
       → ((k : ℕ) → k < slots (decode_table t) → Sits (decode_table t) k f → Elsewhere (record_at (width_of t) k) (record_size (width_of t)) at m)
@@ -83,14 +79,14 @@ module _ (t a : List ℕ) (b : Bytes t) (f : Found) (s : Step) (G : Good t a f s
   unfolding finishes finish_at ends placed
   finish-outside at m w = go s.refused (seating (decode_table t) f) refl
     where
-      go : (b : Bool) (x : Found) → seating (decode_table t) f ≡ x → part (if b then refuse t why.Full else finish_at x t s a).table at m ≡ part t at m
+      go : (b : Bool) (x : Option ℕ) → seating (decode_table t) f ≡ x → part (if b then refuse t why.Full else finish_at x t s a).table at m ≡ part t at m
       go true x v = refl
-      go false (found.At k) v =
+      go false (Some k) v =
           let i = sits (decode_table t) f k v in
           let S = entered-seated t a f G.came in
           let l = sits-below t f k S i in
           placed-outside t (slots (decode_table t)) k s.peer b (sound-whole t S.whole) l (shape-peer G.fits) at m (w k l i)
-      go false found.Nothing v = ap (λ (u : List ℕ). part u at m) (unchanged-ends (said s a) t b (entered-seated t a f G.came).whole)
+      go false None v = ap (λ (u : List ℕ). part u at m) (unchanged-ends (said s a) t b (entered-seated t a f G.came).whole)
 
   finish-octets : (j : ℕ) → j < slots (decode_table t) → in_use (slot (decode_table t) j) ≡ true → belongs a (slot (decode_table t) j) ≡ false
       → part (finishes t f s a).table (record_at (width_of t) j) (record_size (width_of t)) ≡ part t (record_at (width_of t) j) (record_size (width_of t))
@@ -125,10 +121,10 @@ module _ (t a : List ℕ) (b : Bytes t) (f : Found) (s : Step) (G : Good t a f s
 refused-keeps : (t a : List ℕ) (c : Refusal) (l : Left) → Bytes t → sound t ≡ true → l ≡ refuse t c → Keeping t a l.table
 refused-keeps t a c l b s e = subst (λ (x : Left). Keeping t a x.table) (sym e) (keeps-all t a b s)
 
-pub turn-keeps : (w : Turn) (g : Found → Step) (t a : List ℕ) → Bytes t → length a ≡ 6 → Bytes a → sound t ≡ true → ((f : Found) → w ≡ Go f → Good t a f (g f)) → Keeping t a (turned w g t a).table
+pub turn-keeps : (w : Result (Option ℕ) Refusal) (g : Option ℕ → Step) (t a : List ℕ) → Bytes t → length a ≡ 6 → Bytes a → sound t ≡ true → ((f : Option ℕ) → w ≡ Ok f → Good t a f (g f)) → Keeping t a (turned w g t a).table
 unfolding turned
-turn-keeps (Refused c) g t a b la ba s G = keeps-all t a b s
-turn-keeps (Go f) g t a b la ba s G = go (finish-ends t a b la ba f (g f) (G f refl))
+turn-keeps (Err c) g t a b la ba s G = keeps-all t a b s
+turn-keeps (Ok f) g t a b la ba s G = go (finish-ends t a b la ba f (g f) (G f refl))
   where
     go : (finishes t f (g f) a ≡ refuse t why.Full) ⊎ Finished t a (g f) (finishes t f (g f) a) → Keeping t a (finishes t f (g f) a).table
     go (inl e) = refused-keeps t a why.Full _ b s e
@@ -152,16 +148,16 @@ receive-keeps t a time frame fresh expected verdict b la ba ht br bf be hv s =
     turn-keeps _ _ t a b la ba s (λ f e. receive_good t a time frame fresh expected verdict f b la ba ht br bf be hv e)
 
 -- the clock call, about the record that it takes; where none is due every octet stays
-pub expire-keeps-due : (t : List ℕ) (time k : ℕ) → Bytes t → time < 2 ^ 32 → sound t ≡ true → due_slot (decode_table t) time ≡ found.At k
+pub expire-keeps-due : (t : List ℕ) (time k : ℕ) → Bytes t → time < 2 ^ 32 → sound t ≡ true → due_slot (decode_table t) time ≡ Some k
     → Keeping t (slot (decode_table t) k).address (expires t time).table
 expire-keeps-due t time k b ht s e =
-    rw (takes t time k s e) (finish-keeps t (slot (decode_table t) k).address b (found.At k) _ (expire_good t time k b ht s e) (clock-ends t time k s e b ht))
+    rw (takes t time k s e) (finish-keeps t (slot (decode_table t) k).address b (Some k) _ (expire_good t time k b ht s e) (clock-ends t time k s e b ht))
 
-pub expire-keeps-none : (t : List ℕ) (time : ℕ) → Bytes t → due_slot (decode_table t) time ≡ found.Nothing → (expires t time).table ≡ t
+pub expire-keeps-none : (t : List ℕ) (time : ℕ) → Bytes t → due_slot (decode_table t) time ≡ None → (expires t time).table ≡ t
 unfolding expires expires_by
 expire-keeps-none t time b e = rw e (go (sound t) refl)
   where
-    go : (x : Bool) → sound t ≡ x → (if x then expires_by found.Nothing t time else refuse t why.Unsound).table ≡ t
+    go : (x : Bool) → sound t ≡ x → (if x then expires_by None t time else refuse t why.Unsound).table ≡ t
     go true s = unchanged-ends _ t b s
     go false s = refl
 
@@ -179,9 +175,9 @@ receive-sound t a time frame fresh expected verdict b la ba ht br bf be hv s = (
 pub expire-sound : (t : List ℕ) (time : ℕ) → Bytes t → time < 2 ^ 32 → sound t ≡ true → SoundTable (expires t time).table
 expire-sound t time b ht s = go (due_slot (decode_table t) time) refl
   where
-    go : (f : Found) → due_slot (decode_table t) time ≡ f → SoundTable (expires t time).table
-    go (found.At k) e = (expire-keeps-due t time k b ht s e).table
-    go found.Nothing e = subst SoundTable (sym (expire-keeps-none t time b e)) (sound-table t s)
+    go : (f : Option ℕ) → due_slot (decode_table t) time ≡ f → SoundTable (expires t time).table
+    go (Some k) e = (expire-keeps-due t time k b ht s e).table
+    go None e = subst SoundTable (sym (expire-keeps-none t time b e)) (sound-table t s)
 
 -- a set up that is not refused makes a sound table, whatever the buffer held; one that is refused leaves the table
 pub initialize-makes : (size : ℕ) (t own : List ℕ) (s : Settings) → FitSettings s own → initial_ok (form_of size) s own (length t) ≡ true

@@ -1,6 +1,6 @@
 -- Each call's causes of refusal, "in order of test".
-use Rattle.std.specs.Prelude.{Bool, true, false, not, ◌&&◌, ◌||◌, List, [], ◌∷◌, ℕ, eqb, ltb, length, if◌then◌else◌}
-use Rattle.octets.specs.Scan.{is_nothing}
+use Rattle.std.specs.Prelude.{Bool, true, false, not, ◌&&◌, ◌||◌, List, [], ◌∷◌, ℕ, eqb, ltb, length, if◌then◌else◌, is_none}
+use Rattle.causes.specs.Causes.{number}
 use Rattle.groups.specs.Groups.{fresh_ok}
 use Rattle.frame.specs.Writing.{Drawn, Octets, Outside}
 use Rattle.record.specs.declared.Form.{Form}
@@ -13,9 +13,8 @@ use Rattle.rules.specs.declared.Act.{Act}
 use Rattle.rules.specs.Book.{◌is◌, has_run, frame_act}
 use Rattle.rule_laws.specs.Slots.{is_no_slot}
 use Rattle.message.specs.View.{view, message}
-use Rattle.answers.specs.declared.Refusal.{Refusal}
-use Rattle.answers.specs.declared.Refusal.TheVariants as why
-use Rattle.answers.specs.Answers.{number}
+use Rattle.causes.specs.declared.Refusal.{Refusal}
+use Rattle.causes.specs.declared.Refusal.TheVariants as why
 use Rattle.moves.specs.declared.Direction.{Direction}
 use Rattle.moves.specs.Moves.{source_form, target_form, is_of, hindered, hindrance, fitting}
 use Rattle.calls.specs.Calls.{terms_of, clock_of, fresh_in, brings, full}
@@ -56,7 +55,7 @@ distinct (c ∷ cs) = not (eqb (number c.why) 0) && (unlike (number c.why) cs &&
 
 -- the address has no record
 unfoldable pub absent : Table → List ℕ → Bool
-absent T a = is_nothing (finds T a)
+absent T a = is_none (finds T a)
 
 -- ---- the causes of each call
 

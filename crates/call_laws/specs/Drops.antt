@@ -6,7 +6,7 @@ use Rattle.table.specs.Table.{decode_table, finds, look}
 use Rattle.rules.specs.Book.{◌is◌}
 use Rattle.rules.specs.Asked.{Drops}
 use Rattle.message.specs.View.{message}
-use Rattle.answers.specs.declared.Outcome.TheVariants as outcome
+use Rattle.answers.specs.Outcome as outcome
 use Rattle.answers.specs.Answers.{Left, quiet}
 use Rattle.calls.specs.Calls.{terms_of, clock_of, fresh_in, brings}
 use Rattle.call_laws.specs.Isolation.{PeerCall, receive}

@@ -1,19 +1,19 @@
 -- AFTER A MOVE: "After either move, any further calls but set up and moves, confined to groups 19 and 20, get the answers that the unmoved table would have
 -- given to the same stocks in its own length." Which stocks are the same, which calls are further ones, what each answers and leaves, and what is said of two
 -- lists of them. A narrow table lists no group but 19 and 20, and its target the same ones: a frame of another group is a further call as any.
-use Rattle.std.specs.Prelude.{◌≡◌, Bool, List, [], ◌∷◌, ◌++◌, ℕ, zero, suc, ◌*◌, length, take, drop}
+use Rattle.std.specs.Prelude.{◌≡◌, Bool, List, [], ◌∷◌, ◌++◌, ℕ, zero, suc, ◌*◌, length, take, drop, Result}
 use Rattle.groups.specs.Groups.{stored, fresh_of}
 use Rattle.record.specs.Layout.{groups_of}
 use Rattle.table.specs.Table.{decode_table, sound}
 use Rattle.good_links.specs.GoodLinks.{filled, fills}
 use Rattle.message.specs.declared.View.{View}
 use Rattle.message.specs.View.{view}
-use Rattle.answers.specs.declared.Answer.{Answer}
+use Rattle.answers.specs.Answers.{Told}
 use Rattle.writer.specs.Writer.{LeftOut, writes_parts, writes_record}
-use Rattle.lookups.specs.declared.Asked.{Asked}
 use Rattle.lookups.specs.Lookups.{asks_deadline, asks_good}
 use Rattle.moves.specs.Moves.{SameContents}
 use Rattle.call_laws.specs.Isolation.{PeerCall, initiate, kill, receive, expire, Handed, left}
+use Rattle.causes.specs.declared.Refusal.{Refusal}
 
 -- ---- "the same stocks in its own length": of n groups, W octets for each in s, W' for each in z
 
@@ -43,11 +43,11 @@ pub data Further : Type 0 where
 -- what a further call answers: of a fill whether it is done, or refused 2; what a writer answers and leaves of the buffer; of the reader whether the table is
 -- sound, and all that it sees of the frame
 pub data Reply : Type 0 where
-  answered : Answer → Reply
+  answered : Told → Reply
   filled_so : Bool → Reply
   wrote : LeftOut → Reply
   heard : Bool → View → Reply
-  told : Asked → Reply
+  told : Result ℕ Refusal → Reply
 
 abbrev pub reply : List ℕ → Further → Reply
 reply t (call c) = answered (left t c).answer

@@ -1,10 +1,9 @@
 -- The edges marked as proved, and those that the requests bring, as one table: each case asks a question of the definitions of calls and rules and has the
 -- numbers that answer it.
-use Rattle.std.specs.Prelude.{Bool, true, ◌&&◌, List, [], ◌∷◌, ◌++◌, ℕ, zero, suc, ◌+◌, replicate, if◌then◌else◌}
+use Rattle.std.specs.Prelude.{Bool, true, ◌&&◌, List, [], ◌∷◌, ◌++◌, ℕ, zero, suc, ◌+◌, replicate, if◌then◌else◌, Option, Some, None, Result, Ok, Err}
+use Rattle.causes.specs.Causes.{number}
 use Rattle.octets.specs.Scan.{bit}
 use Rattle.octets.specs.Octets.{oct, same}
-use Rattle.octets.specs.declared.Found.{Found}
-use Rattle.octets.specs.declared.Found.TheVariants as found
 use Rattle.groups.specs.Groups.{width}
 use Rattle.frame.specs.Frame.{head}
 use Rattle.record.specs.declared.Peer.{Peer}
@@ -23,11 +22,9 @@ use Rattle.rules.specs.declared.Frames.TheVariants as frames
 use Rattle.rules.specs.Book.{◌is◌, Step, event_number, frame_act, clock_act}
 use Rattle.message.specs.declared.View.{View}
 use Rattle.message.specs.View.{view, message}
-use Rattle.answers.specs.declared.Turn.{Turn}
-use Rattle.answers.specs.declared.Turn.TheVariants as turn
-use Rattle.answers.specs.declared.Refusal.TheVariants as why
-use Rattle.answers.specs.Answers.{number}
+use Rattle.causes.specs.declared.Refusal.TheVariants as why
 use Rattle.calls.specs.Calls.{terms_of, clock_of, brings, fresh_in, admit_frame, start_step, frame_step, due_slot, clock_step}
+use Rattle.causes.specs.declared.Refusal.{Refusal}
 
 -- ---- tables: eight slots, threshold 5; of the form of 864 octets with groups 19 and 20, unless said
 
@@ -168,13 +165,13 @@ abbrev pub view_numbers : View → List ℕ
 view_numbers v = v.sequence ∷ v.status ∷ v.group ∷ v.counter ∷ v.toklen ∷ []
 
 -- the refusal's number, or what was read
-abbrev pub admitted : Turn → View → List ℕ
-admitted (turn.Refused c) v = number c ∷ []
-admitted (turn.Go f) v = view_numbers v
+abbrev pub admitted : Result (Option ℕ) Refusal → View → List ℕ
+admitted (Err c) v = number c ∷ []
+admitted (Ok f) v = view_numbers v
 
-abbrev pub slot_numbers : Found → List ℕ
-slot_numbers found.Nothing = []
-slot_numbers (found.At k) = k ∷ []
+abbrev pub slot_numbers : Option ℕ → List ℕ
+slot_numbers None = []
+slot_numbers (Some k) = k ∷ []
 
 -- record size, the most slots, the most groups, and, if there are any, the width of a stored commit
 abbrev pub form_numbers : Form → List ℕ
@@ -260,19 +257,19 @@ pub data Question : Type 0 where
 
 -- a frame call's tests on an empty table
 abbrev pub received : Table → List ℕ → List ℕ → List ℕ
-received T s fresh = admitted (admit_frame T found.Nothing s fresh expected 1) (view (groups_of T.header) s)
+received T s fresh = admitted (admit_frame T None s fresh expected 1) (view (groups_of T.header) s)
 
 -- a start on the empty table
 abbrev pub started : ℕ → Peer
-started time = (start_step empty found.Nothing (address 1) time stock).peer
+started time = (start_step empty None (address 1) time stock).peer
 
 -- the act that the ladder names for a frame, heard at a reading from an address whose record is at f
-abbrev pub heard_with : List ℕ → Table → Found → List ℕ → ℕ → List ℕ → ℕ → Act
+abbrev pub heard_with : List ℕ → Table → Option ℕ → List ℕ → ℕ → List ℕ → ℕ → Act
 heard_with fresh T f a time frame verdict =
     frame_act (terms_of T f) (brings a (clock_of T.header time) (fresh_in T.header fresh) expected (verdict is 1)) (look_by T f)
     (message (groups_of T.header) frame)
 
-abbrev pub heard : Table → Found → List ℕ → ℕ → List ℕ → ℕ → Act
+abbrev pub heard : Table → Option ℕ → List ℕ → ℕ → List ℕ → ℕ → Act
 heard = heard_with stock
 
 abbrev pub say_expired : Act → Step → List ℕ
@@ -300,27 +297,27 @@ answer_paced T = say_paced (clock_act (slot T 7) 0) (clock_step T 7 0)
 
 abbrev pub answer_confirmed : Table → List ℕ → ℕ → List ℕ
 answer_confirmed T frame verdict =
-    say_confirmed (heard T (found.At 7) (address 1) 0 frame verdict) (frame_step T (found.At 7) (address 1) 0 frame stock expected verdict)
+    say_confirmed (heard T (Some 7) (address 1) 0 frame verdict) (frame_step T (Some 7) (address 1) 0 frame stock expected verdict)
 
 abbrev pub answer_due_after : Table → List ℕ → ℕ → ℕ → List ℕ
 answer_due_after T frame time later =
-    named (heard T (found.At 7) (address 1) time frame 0)
-    ∷ slot_numbers (due_slot (placed T 7 (frame_step T (found.At 7) (address 1) time frame stock expected 0).peer) later)
+    named (heard T (Some 7) (address 1) time frame 0)
+    ∷ slot_numbers (due_slot (placed T 7 (frame_step T (Some 7) (address 1) time frame stock expected 0).peer) later)
 
 -- the step of a 76 for a group that comes to a record at reading 0, and the record after a start and so many for its own group
 abbrev pub request_step : Peer → ℕ → Step
-request_step p group = frame_step (placed empty 7 p) (found.At 7) (address 1) 0 (request_octets group) stock expected 0
+request_step p group = frame_step (placed empty 7 p) (Some 7) (address 1) 0 (request_octets group) stock expected 0
 
 abbrev pub requested : ℕ → Peer
 requested zero = started 0
 requested (suc n) = (request_step (requested n) 19).peer
 
 abbrev pub answer_requested : Peer → ℕ → List ℕ
-answer_requested p group = say_requested (heard (placed empty 7 p) (found.At 7) (address 1) 0 (request_octets group) 0) (request_step p group)
+answer_requested p group = say_requested (heard (placed empty 7 p) (Some 7) (address 1) 0 (request_octets group) 0) (request_step p group)
 
 abbrev pub answer_offered : List ℕ → Table → List ℕ → List ℕ
 answer_offered fresh T frame =
-    say_offered (heard_with fresh T found.Nothing (address 100) 0 frame 1) (frame_step T found.Nothing (address 100) 0 frame fresh expected 1)
+    say_offered (heard_with fresh T None (address 100) 0 frame 1) (frame_step T None (address 100) 0 frame fresh expected 1)
 
 unfoldable pub answer : Question → List ℕ
 answer (Received s) = received empty s stock

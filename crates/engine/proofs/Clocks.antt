@@ -1,4 +1,5 @@
 -- The clock: which record is due, and its step.
+use Rattle.std.specs.Prelude.{Option, Some, None}
 use mathlib.Core.Path.{◌≡◌, refl, sym, ap, ◌∙◌, subst}
 use mathlib.Core.Bool.{Bool, true, false, not}
 use mathlib.Core.List.{List, []}
@@ -8,8 +9,6 @@ use borrow.Author.Tests.{not-true}
 use Rattle.octets.specs.Octets.{Bytes}
 use Rattle.octets.specs.Scan.{first_below}
 use Rattle.octets.proofs.Scan.{first-at}
-use Rattle.octets.specs.declared.Found.{Found}
-use Rattle.octets.specs.declared.Found.TheVariants as found
 use Rattle.record.specs.declared.Header.{Header}
 use Rattle.record.specs.Layout.{groups_of}
 use Rattle.table.specs.Table.{Table, decode_table, encode_table, recounted, slots, slot, sound, Looked}
@@ -20,57 +19,56 @@ use Rattle.rules.specs.declared.Said.{Said}
 use Rattle.rules.specs.Book.{expired, on_clock}
 use Rattle.rules.specs.Given.{terms, call}
 use Rattle.rule_laws.proofs.Slots.{clock-seated}
-use Rattle.answers.specs.declared.Answer.{Answer}
-use Rattle.answers.specs.declared.Refusal.TheVariants as why
-use Rattle.answers.specs.Answers.{Left, Leaves, ends, seating, refused, none_due, answered, finishes}
+use Rattle.causes.specs.declared.Refusal.TheVariants as why
+use Rattle.answers.specs.Answers.{Told, Left, Leaves, ends, seating, refused, none_due, answered, finishes}
 use Rattle.calls.specs.Calls.{clock_of, brings, due_slot, clock_step, expires_by, expires}
 use Rattle.engine.specs.InSlot.{Held, given_by, DoesAt}
 use Rattle.engine.proofs.Windows.{seat-done}
 use Rattle.engine.proofs.Starts.{seated-terms, brought}
 
-pub due-law : (T : Table) (n time : ℕ) (r : Found) → n ≡ slots T → r ≡ first_below (λ k. expired (slot T k) time) n → r ≡ due_slot T time
+pub due-law : (T : Table) (n time : ℕ) (r : Option ℕ) → n ≡ slots T → r ≡ first_below (λ k. expired (slot T k) time) n → r ≡ due_slot T time
 unfolding due_slot
 due-law T n time r e q = q ∙ ap (first_below (λ k. expired (slot T k) time)) e
 
 -- the due record is served
-pub served : (t : List ℕ) (h : Header) (k : ℕ) (H : Held t h (found.At k)) (u v a : List ℕ) (time : ℕ) (g : Given) (x : Said) (r : Answer) → a ≡ (slot (decode_table t) k).address
+pub served : (t : List ℕ) (h : Header) (k : ℕ) (H : Held t h (Some k)) (u v a : List ℕ) (time : ℕ) (g : Given) (x : Said) (r : Told) → a ≡ (slot (decode_table t) k).address
     → g ≡ given_by h a time (replicate 32 0) false → DoesAt x u t k (on_clock (terms g (groups_of h)) (call g []) (slot (decode_table t) k))
     → (r ≡ answered x a) × (v ≡ encode_table (recounted (decode_table u)))
-    → Leaves r v (finishes t (found.At k) (clock_step (decode_table t) k time) (slot (decode_table t) k).address)
+    → Leaves r v (finishes t (Some k) (clock_step (decode_table t) k time) (slot (decode_table t) k).address)
 unfolding clock_step seating
 served t h k H u v a time g x r ea eg d w =
-    let T = seated-terms (given_by h a time (replicate 32 0) false) h (decode_table t) (found.At k) k H.header (brought h a time (replicate 32 0) false) refl in
+    let T = seated-terms (given_by h a time (replicate 32 0) false) h (decode_table t) (Some k) k H.header (brought h a time (replicate 32 0) false) refl in
     let G : g ≡ given_by h (slot (decode_table t) k).address time (replicate 32 0) false = eg ∙ ap (λ (y : List ℕ). given_by h y time (replicate 32 0) false) ea in
-    subst (λ (y : List ℕ). Leaves r v (finishes t (found.At k) (clock_step (decode_table t) k time) y)) ea
-    (seat-done t (found.At k) k u v a x _ _ r refl (clock-seated _ _ _)
+    subst (λ (y : List ℕ). Leaves r v (finishes t (Some k) (clock_step (decode_table t) k time) y)) ea
+    (seat-done t (Some k) k u v a x _ _ r refl (clock-seated _ _ _)
     ((λ i. on_clock (sym T i) (brings (slot (decode_table t) k).address (clock_of (sym H.header i) time) [] (replicate 32 0) false) (slot (decode_table t) k))
     ∙ (λ i. on_clock (terms (given_by h (ea i) time (replicate 32 0) false) (groups_of h)) (call (sym G i) []) (slot (decode_table t) k))
     ∙ (λ i. on_clock (terms (sym G i) (groups_of h)) (call g []) (slot (decode_table t) k))) d w)
 
-pub expire-unsound : (t : List ℕ) (time : ℕ) (b : Bool) (r : Answer) → b ≡ sound t → not b ≡ true → r ≡ refused why.Unsound → Leaves r t (expires t time)
+pub expire-unsound : (t : List ℕ) (time : ℕ) (b : Bool) (r : Told) → b ≡ sound t → not b ≡ true → r ≡ refused why.Unsound → Leaves r t (expires t time)
 unfolding expires
 expire-unsound t time b r e q er = let z : sound t ≡ false = sym e ∙ not-true b q in rw z (record { answer = er; table = refl })
 
-module _ (t : List ℕ) (time : ℕ) (b : Bool) (h : Header) (L : Looked t b h) (q : not b ≡ false) (d : Found) (ed : d ≡ due_slot (decode_table t) time) where
-  expires-by : (x : Found) → d ≡ x → expires t time ≡ expires_by x t time
+module _ (t : List ℕ) (time : ℕ) (b : Bool) (h : Header) (L : Looked t b h) (q : not b ≡ false) (d : Option ℕ) (ed : d ≡ due_slot (decode_table t) time) where
+  expires-by : (x : Option ℕ) → d ≡ x → expires t time ≡ expires_by x t time
   unfolding expires
   expires-by x e = let z : sound t ≡ true = looked-sound t b h L q in let w : due_slot (decode_table t) time ≡ x = sym ed ∙ e in rw (z, w) refl
 
-  pub expire-none : (r : Answer) → Bytes t → d ≡ found.Nothing → r ≡ none_due → Leaves r t (expires t time)
+  pub expire-none : (r : Told) → Bytes t → d ≡ None → r ≡ none_due → Leaves r t (expires t time)
   unfolding expires_by ends
-  expire-none r y e er = subst (λ (l : Left). Leaves r t l) (sym (expires-by found.Nothing e)) (record { answer = er; table = sym (recounted-again t y (looked-sound t b h L q)) })
+  expire-none r y e er = subst (λ (l : Left). Leaves r t l) (sym (expires-by None e)) (record { answer = er; table = sym (recounted-again t y (looked-sound t b h L q)) })
 
-  below : (k : ℕ) → d ≡ found.At k → k < slots (decode_table t)
+  below : (k : ℕ) → d ≡ Some k → k < slots (decode_table t)
   unfolding due_slot
   below k e = (first-at _ (slots (decode_table t)) k (sym ed ∙ e)).0
 
-  pub expire-held : (k : ℕ) → d ≡ found.At k → Held t h (found.At k)
+  pub expire-held : (k : ℕ) → d ≡ Some k → Held t h (Some k)
   expire-held k e =
       record {
         seated = record { whole = looked-sound t b h L q; below = λ j z. let y : k ≡ j = cc in subst (λ (i : ℕ). i < slots (decode_table t)) y (below k e) };
         header = looked-header t b h L q;
       }
 
-  pub expire-at : (k : ℕ) (r : Answer) (u : List ℕ) → d ≡ found.At k → Leaves r u (finishes t (found.At k) (clock_step (decode_table t) k time) (slot (decode_table t) k).address) → Leaves r u (expires t time)
+  pub expire-at : (k : ℕ) (r : Told) (u : List ℕ) → d ≡ Some k → Leaves r u (finishes t (Some k) (clock_step (decode_table t) k time) (slot (decode_table t) k).address) → Leaves r u (expires t time)
   unfolding expires_by
-  expire-at k r u e l = subst (λ (l : Left). Leaves r u l) (sym (expires-by (found.At k) e)) l
+  expire-at k r u e l = subst (λ (l : Left). Leaves r u l) (sym (expires-by (Some k) e)) l

@@ -9,10 +9,8 @@ use lib.ListN.{length, take}
 use lib.Seq.{take_all}
 use borrow.Author.Tests.{eq-eqb, ne_eqb, lt-ltb, le-ltb, eqb-true}
 use Rattle.octets.specs.Octets.{Bytes, part}
-use Rattle.std.specs.Prelude.{if◌then◌else◌}
+use Rattle.std.specs.Prelude.{if◌then◌else◌, Option, Some, None, Result, Ok, Err}
 use Rattle.octets.proofs.Scan.{clash}
-use Rattle.octets.specs.declared.Found.{Found}
-use Rattle.octets.specs.declared.Found.TheVariants as found
 use Rattle.groups.specs.Groups.{Storable, fresh_of, fresh_ok}
 use Rattle.record.specs.declared.Header.{Header}
 use Rattle.record.specs.Layout.{groups_of, width_in, decode_peer, no_peer}
@@ -21,8 +19,6 @@ use Rattle.soundness.proofs.Storable.{header-room}
 use Rattle.table.specs.Table.{Table, decode_table, encode_table, recounted, slot, look_by, sound, entry, Enters}
 use Rattle.table.proofs.Kept.{recounted-again}
 use Rattle.table.specs.declared.Entrance.{Entrance}
-use Rattle.table.specs.declared.Entry.{Entry}
-use Rattle.table.specs.declared.Entry.TheVariants as entry-is
 use Rattle.rules.specs.declared.Given.{Given}
 use Rattle.rules.specs.Message.{Message}
 use Rattle.rules.specs.declared.Said.{Said}
@@ -33,12 +29,9 @@ use Rattle.rule_laws.proofs.Slots.{frame-seated}
 use Rattle.message.specs.declared.View.{View}
 use Rattle.message.specs.View.{view, message_of, message}
 use Rattle.message.proofs.Laws.{message-storable}
-use Rattle.answers.specs.declared.Answer.{Answer}
-use Rattle.answers.specs.declared.Refusal.{Refusal}
-use Rattle.answers.specs.declared.Refusal.TheVariants as why
-use Rattle.answers.specs.declared.Turn.{Turn}
-use Rattle.answers.specs.declared.Turn.TheVariants.{Refused, Go}
-use Rattle.answers.specs.Answers.{Leaves, ends, refuse, seating, refused, said, answered, finish_at, finishes}
+use Rattle.causes.specs.declared.Refusal.{Refusal}
+use Rattle.causes.specs.declared.Refusal.TheVariants as why
+use Rattle.answers.specs.Answers.{Told, Leaves, ends, refuse, seating, refused, said, answered, finish_at, finishes}
 use Rattle.answers.proofs.Laws.{clashed, turned-refused, turned-go}
 use Rattle.calls.specs.Calls.{terms_of, clock_of, brings, fresh_in, admit_frame, frame_turn, frame_step, receives}
 use Rattle.engine.specs.declared.Admitted.{Admitted}
@@ -50,20 +43,20 @@ use Rattle.engine.proofs.Starts.{seat-none, seated-terms, unseated-terms, brough
 -- ---- causes 4, 5, 6, 7
 
 -- the tests, over the width and the listed groups alone
-abbrev admission : ℕ → List ℕ → Found → List ℕ → List ℕ → List ℕ → ℕ → Turn
+abbrev admission : ℕ → List ℕ → Option ℕ → List ℕ → List ℕ → List ℕ → ℕ → Result (Option ℕ) Refusal
 admission W gs f frame fresh expected verdict =
-    if not (fresh_ok W gs fresh) then Refused why.Fresh
-    else if not (eqb (length expected) 32) then Refused why.Token
-    else if ltb 1 verdict then Refused why.Verdict
-    else if (view gs frame).sequence is 0 then Refused why.Body
-    else Go f
+    if not (fresh_ok W gs fresh) then Err why.Fresh
+    else if not (eqb (length expected) 32) then Err why.Token
+    else if ltb 1 verdict then Err why.Verdict
+    else if (view gs frame).sequence is 0 then Err why.Body
+    else Ok f
 
-module _ (h : Header) (f : Found) (frame fresh expected : List ℕ) (verdict : ℕ) where
-  admitted : (r : Turn) → r ≡ admission (width_in h) (groups_of h) f frame fresh expected verdict → (T : Table) → h ≡ T.header → r ≡ admit_frame T f frame fresh expected verdict
+module _ (h : Header) (f : Option ℕ) (frame fresh expected : List ℕ) (verdict : ℕ) where
+  admitted : (r : Result (Option ℕ) Refusal) → r ≡ admission (width_in h) (groups_of h) f frame fresh expected verdict → (T : Table) → h ≡ T.header → r ≡ admit_frame T f frame fresh expected verdict
   unfolding admit_frame
   admitted r q T e = q ∙ ap (λ (g : Header). admission (width_in g) (groups_of g) f frame fresh expected verdict) e
 
-  refuses : (r : Admitted) (c : Refusal) → r ≡ refused_frame c → Refused c ≡ admission (width_in h) (groups_of h) f frame fresh expected verdict → AdmitsFrame r h f frame fresh expected verdict
+  refuses : (r : Admitted) (c : Refusal) → r ≡ refused_frame c → Err c ≡ admission (width_in h) (groups_of h) f frame fresh expected verdict → AdmitsFrame r h f frame fresh expected verdict
   refuses r c e q =
       record {
         turn = admitted r.turn (ap (λ (x : Admitted). x.turn) e ∙ q);
@@ -90,7 +83,7 @@ module _ (h : Header) (f : Found) (frame fresh expected : List ℕ) (verdict : �
           let y : eqb (view (groups_of h) frame).sequence 0 ≡ true = eq-eqb _ _ (ap (λ (x : View). x.sequence) (sym es.0) ∙ n) in
           refuses r why.Body e (rw (z, eq-eqb _ _ d, le-ltb _ _ v, y) refl)
 
-      pub frame-go : not b ≡ false → length expected ≡ 32 → verdict ≤ 1 → (seen.sequence ≡ 0 → ⊥) → r ≡ record { turn = Go f; view = seen } → AdmitsFrame r h f frame fresh expected verdict
+      pub frame-go : not b ≡ false → length expected ≡ 32 → verdict ≤ 1 → (seen.sequence ≡ 0 → ⊥) → r ≡ record { turn = Ok f; view = seen } → AdmitsFrame r h f frame fresh expected verdict
       frame-go q d v n e =
           let z = stock-tested h fresh w b false ew eb q in
           let y : eqb (view (groups_of h) frame).sequence 0 ≡ false = ne_eqb _ _ (λ i. n (ap (λ (x : View). x.sequence) es.0 ∙ i)) in
@@ -111,86 +104,86 @@ module _ (h : Header) {n : ℕ} (en : n ≡ h.settings.count) where
 
 -- ---- which entry a frame met
 
-module _ (h : Header) (frame fresh expected : List ℕ) (verdict : ℕ) (r : Admitted) (E : Entry) where
-  pub takes-refused : (x : Entry) (c : Refusal) → E ≡ x → ((t : List ℕ) → frame_turn x t frame fresh expected verdict ≡ Refused c) → r ≡ refused_frame c → TakesFrame r h E frame fresh expected verdict
+module _ (h : Header) (frame fresh expected : List ℕ) (verdict : ℕ) (r : Admitted) (E : Result (Option ℕ) Refusal) where
+  pub takes-refused : (x : Result (Option ℕ) Refusal) (c : Refusal) → E ≡ x → ((t : List ℕ) → frame_turn x t frame fresh expected verdict ≡ Err c) → r ≡ refused_frame c → TakesFrame r h E frame fresh expected verdict
   takes-refused x c q z e =
       record {
-        turn = λ t M. ap (λ (y : Admitted). y.turn) e ∙ sym (z t) ∙ ap (λ (y : Entry). frame_turn y t frame fresh expected verdict) (sym q);
+        turn = λ t M. ap (λ (y : Admitted). y.turn) e ∙ sym (z t) ∙ ap (λ (y : Result (Option ℕ) Refusal). frame_turn y t frame fresh expected verdict) (sym q);
         view = λ k i. clashed (sym (ap (λ (y : Admitted). y.turn) e) ∙ i);
         short = subst (λ (y : Admitted). y.view.toklen ≤ 256) (sym e) (lit≤ tt);
       }
 
-  pub takes-unsound : E ≡ entry-is.Unsound → r ≡ refused_frame why.Unsound → TakesFrame r h E frame fresh expected verdict
+  pub takes-unsound : E ≡ Err why.Unsound → r ≡ refused_frame why.Unsound → TakesFrame r h E frame fresh expected verdict
   unfolding frame_turn
-  takes-unsound q e = takes-refused entry-is.Unsound why.Unsound q (λ t. refl) e
+  takes-unsound q e = takes-refused (Err why.Unsound) why.Unsound q (λ t. refl) e
 
-  pub takes-unusable : E ≡ entry-is.Unusable → r ≡ refused_frame why.Address → TakesFrame r h E frame fresh expected verdict
+  pub takes-unusable : E ≡ Err why.Address → r ≡ refused_frame why.Address → TakesFrame r h E frame fresh expected verdict
   unfolding frame_turn
-  takes-unusable q e = takes-refused entry-is.Unusable why.Address q (λ t. refl) e
+  takes-unusable q e = takes-refused (Err why.Address) why.Address q (λ t. refl) e
 
-  pub takes-absent : E ≡ entry-is.Absent → AdmitsFrame r h found.Nothing frame fresh expected verdict → TakesFrame r h E frame fresh expected verdict
+  pub takes-absent : E ≡ Ok None → AdmitsFrame r h None frame fresh expected verdict → TakesFrame r h E frame fresh expected verdict
   unfolding frame_turn
   takes-absent q A =
       record {
-        turn = λ t M. A.turn (decode_table t) (M.absent q).header ∙ ap (λ (y : Entry). frame_turn y t frame fresh expected verdict) (sym q);
+        turn = λ t M. A.turn (decode_table t) (M.absent q).header ∙ ap (λ (y : Result (Option ℕ) Refusal). frame_turn y t frame fresh expected verdict) (sym q);
         view = A.view;
         short = A.short;
       }
 
-  pub takes_at : (k : ℕ) → E ≡ entry-is.At k → AdmitsFrame r h (found.At k) frame fresh expected verdict → TakesFrame r h E frame fresh expected verdict
+  pub takes_at : (k : ℕ) → E ≡ Ok (Some k) → AdmitsFrame r h (Some k) frame fresh expected verdict → TakesFrame r h E frame fresh expected verdict
   unfolding frame_turn
   takes_at k q A =
       record {
-        turn = λ t M. A.turn (decode_table t) (M.here k q).header ∙ ap (λ (y : Entry). frame_turn y t frame fresh expected verdict) (sym q);
+        turn = λ t M. A.turn (decode_table t) (M.here k q).header ∙ ap (λ (y : Result (Option ℕ) Refusal). frame_turn y t frame fresh expected verdict) (sym q);
         view = A.view;
         short = A.short;
       }
 
 -- by the entry taken apart
-pub takes-if-unsound : (r : Admitted) (h : Header) (E : Entry) (frame fresh expected : List ℕ) (verdict : ℕ) (b : Bool) → b ≡ is_unsound E → b ≡ true
+pub takes-if-unsound : (r : Admitted) (h : Header) (E : Result (Option ℕ) Refusal) (frame fresh expected : List ℕ) (verdict : ℕ) (b : Bool) → b ≡ is_unsound E → b ≡ true
     → r ≡ refused_frame why.Unsound → TakesFrame r h E frame fresh expected verdict
-takes-if-unsound r h entry-is.Unsound frame fresh expected verdict b e q k = takes-unsound h frame fresh expected verdict r entry-is.Unsound refl k
-takes-if-unsound r h entry-is.Unusable frame fresh expected verdict b e q k = absurd (clash (sym e ∙ q) refl)
-takes-if-unsound r h entry-is.Absent frame fresh expected verdict b e q k = absurd (clash (sym e ∙ q) refl)
-takes-if-unsound r h (entry-is.At i) frame fresh expected verdict b e q k = absurd (clash (sym e ∙ q) refl)
+takes-if-unsound r h (Err why.Unsound) frame fresh expected verdict b e q k = takes-unsound h frame fresh expected verdict r (Err why.Unsound) refl k
+takes-if-unsound r h (Err why.Address) frame fresh expected verdict b e q k = absurd (clash (sym e ∙ q) refl)
+takes-if-unsound r h (Ok None) frame fresh expected verdict b e q k = absurd (clash (sym e ∙ q) refl)
+takes-if-unsound r h (Ok (Some i)) frame fresh expected verdict b e q k = absurd (clash (sym e ∙ q) refl)
 
-pub takes-if-unusable : (r : Admitted) (h : Header) (E : Entry) (frame fresh expected : List ℕ) (verdict : ℕ) (b : Bool) → b ≡ is_unusable E → b ≡ true
+pub takes-if-unusable : (r : Admitted) (h : Header) (E : Result (Option ℕ) Refusal) (frame fresh expected : List ℕ) (verdict : ℕ) (b : Bool) → b ≡ is_unusable E → b ≡ true
     → r ≡ refused_frame why.Address → TakesFrame r h E frame fresh expected verdict
-takes-if-unusable r h entry-is.Unsound frame fresh expected verdict b e q k = absurd (clash (sym e ∙ q) refl)
-takes-if-unusable r h entry-is.Unusable frame fresh expected verdict b e q k = takes-unusable h frame fresh expected verdict r entry-is.Unusable refl k
-takes-if-unusable r h entry-is.Absent frame fresh expected verdict b e q k = absurd (clash (sym e ∙ q) refl)
-takes-if-unusable r h (entry-is.At i) frame fresh expected verdict b e q k = absurd (clash (sym e ∙ q) refl)
+takes-if-unusable r h (Err why.Unsound) frame fresh expected verdict b e q k = absurd (clash (sym e ∙ q) refl)
+takes-if-unusable r h (Err why.Address) frame fresh expected verdict b e q k = takes-unusable h frame fresh expected verdict r (Err why.Address) refl k
+takes-if-unusable r h (Ok None) frame fresh expected verdict b e q k = absurd (clash (sym e ∙ q) refl)
+takes-if-unusable r h (Ok (Some i)) frame fresh expected verdict b e q k = absurd (clash (sym e ∙ q) refl)
 
 -- neither unsound nor unusable
 module _ (h : Header) (frame fresh expected : List ℕ) (verdict : ℕ) (a b : Bool) where
-  pub takes-found : (r : Admitted) (E : Entry) (f : Found) → a ≡ is_unsound E → a ≡ false → b ≡ is_unusable E → b ≡ false → f ≡ found_in E
+  pub takes-found : (r : Admitted) (E : Result (Option ℕ) Refusal) (f : Option ℕ) → a ≡ is_unsound E → a ≡ false → b ≡ is_unusable E → b ≡ false → f ≡ found_in E
       → AdmitsFrame r h f frame fresh expected verdict → TakesFrame r h E frame fresh expected verdict
-  takes-found r entry-is.Unsound f p u q v e A = absurd (clash p u)
-  takes-found r entry-is.Unusable f p u q v e A = absurd (clash q v)
-  takes-found r entry-is.Absent f p u q v e A =
-      takes-absent h frame fresh expected verdict r entry-is.Absent refl (subst (λ (x : Found). AdmitsFrame r h x frame fresh expected verdict) e A)
-  takes-found r (entry-is.At k) f p u q v e A =
-      takes_at h frame fresh expected verdict r (entry-is.At k) k refl (subst (λ (x : Found). AdmitsFrame r h x frame fresh expected verdict) e A)
+  takes-found r (Err why.Unsound) f p u q v e A = absurd (clash p u)
+  takes-found r (Err why.Address) f p u q v e A = absurd (clash q v)
+  takes-found r (Ok None) f p u q v e A =
+      takes-absent h frame fresh expected verdict r (Ok None) refl (subst (λ (x : Option ℕ). AdmitsFrame r h x frame fresh expected verdict) e A)
+  takes-found r (Ok (Some k)) f p u q v e A =
+      takes_at h frame fresh expected verdict r (Ok (Some k)) k refl (subst (λ (x : Option ℕ). AdmitsFrame r h x frame fresh expected verdict) e A)
 
-pub listing-header : (h : Header) (E : Entry) (a b : Bool) → Listing h E → a ≡ is_unsound E → a ≡ false → b ≡ is_unusable E → b ≡ false → header_ok h ≡ true
-listing-header h entry-is.Unsound a b L p u q v = absurd (clash p u)
-listing-header h entry-is.Unusable a b L p u q v = absurd (clash q v)
-listing-header h entry-is.Absent a b L p u q v = L.absent refl
-listing-header h (entry-is.At k) a b L p u q v = L.here k refl
+pub listing-header : (h : Header) (E : Result (Option ℕ) Refusal) (a b : Bool) → Listing h E → a ≡ is_unsound E → a ≡ false → b ≡ is_unusable E → b ≡ false → header_ok h ≡ true
+listing-header h (Err why.Unsound) a b L p u q v = absurd (clash p u)
+listing-header h (Err why.Address) a b L p u q v = absurd (clash q v)
+listing-header h (Ok None) a b L p u q v = L.absent refl
+listing-header h (Ok (Some k)) a b L p u q v = L.here k refl
 
 -- a frame that goes on
-pub record Gone (t : List ℕ) (h : Header) (f : Found) (fresh expected : List ℕ) : Type 0 where
+pub record Gone (t : List ℕ) (h : Header) (f : Option ℕ) (fresh expected : List ℕ) : Type 0 where
   pub held : Held t h f
   pub stock : Stocks h fresh
   pub token : length expected ≡ 32
 
-goes : (T : Table) (f g : Found) (frame fresh expected : List ℕ) (verdict : ℕ) → admit_frame T f frame fresh expected verdict ≡ Go g
+goes : (T : Table) (f g : Option ℕ) (frame fresh expected : List ℕ) (verdict : ℕ) → admit_frame T f frame fresh expected verdict ≡ Ok g
     → (fresh_ok (width_in T.header) (groups_of T.header) fresh ≡ true) × ((eqb (length expected) 32 ≡ true) × (f ≡ g))
 unfolding admit_frame
 goes T f g frame fresh expected verdict e =
     go (fresh_ok (width_in T.header) (groups_of T.header) fresh) (eqb (length expected) 32) (ltb 1 verdict) ((view (groups_of T.header) frame).sequence is 0) e
   where
-    go : (b x v m : Bool) → (if not b then Refused why.Fresh else if not x then Refused why.Token else if v then Refused why.Verdict else if m then Refused why.Body else Go f) ≡ Go g
+    go : (b x v m : Bool) → (if not b then Err why.Fresh else if not x then Err why.Token else if v then Err why.Verdict else if m then Err why.Body else Ok f) ≡ Ok g
         → (b ≡ true) × ((x ≡ true) × (f ≡ g))
     go false x v m q = clashed q
     go true false v m q = clashed q
@@ -198,16 +191,16 @@ goes T f g frame fresh expected verdict e =
     go true true false true q = clashed q
     go true true false false q = (refl, (refl, cc))
 
-pub frame-goes : (t : List ℕ) (h : Header) (frame fresh expected : List ℕ) (verdict : ℕ) (E : Entry) (f : Found) → Met t h E → frame_turn E t frame fresh expected verdict ≡ Go f → Gone t h f fresh expected
+pub frame-goes : (t : List ℕ) (h : Header) (frame fresh expected : List ℕ) (verdict : ℕ) (E : Result (Option ℕ) Refusal) (f : Option ℕ) → Met t h E → frame_turn E t frame fresh expected verdict ≡ Ok f → Gone t h f fresh expected
 unfolding frame_turn
-frame-goes t h frame fresh expected verdict entry-is.Unsound f M e = clashed e
-frame-goes t h frame fresh expected verdict entry-is.Unusable f M e = clashed e
-frame-goes t h frame fresh expected verdict entry-is.Absent f M e =
-    let w = goes (decode_table t) found.Nothing f frame fresh expected verdict e in
+frame-goes t h frame fresh expected verdict (Err why.Unsound) f M e = clashed e
+frame-goes t h frame fresh expected verdict (Err why.Address) f M e = clashed e
+frame-goes t h frame fresh expected verdict (Ok None) f M e =
+    let w = goes (decode_table t) None f frame fresh expected verdict e in
     let H = subst (Held t h) w.1.1 (M.absent refl) in
     record { held = H; stock = stocks t h f fresh H w.0; token = eqb-true _ _ w.1.0 }
-frame-goes t h frame fresh expected verdict (entry-is.At k) f M e =
-    let w = goes (decode_table t) (found.At k) f frame fresh expected verdict e in
+frame-goes t h frame fresh expected verdict (Ok (Some k)) f M e =
+    let w = goes (decode_table t) (Some k) f frame fresh expected verdict e in
     let H = subst (Held t h) w.1.1 (M.here k refl) in
     record { held = H; stock = stocks t h f fresh H w.0; token = eqb-true _ _ w.1.0 }
 
@@ -219,7 +212,7 @@ token-all s r l e = e ∙ take_all 32 s (omega (arith, l))
 -- ---- the step
 
 -- outside the table
-module _ (s : Step) (a : List ℕ) (x : Said) (r : Answer) (e : x ≡ saying s) where
+module _ (s : Step) (a : List ℕ) (x : Said) (r : Told) (e : x ≡ saying s) where
   pub outside-refused : x.refused ≡ true → r ≡ refused why.Full → r ≡ answers_outside s a
   outside-refused q z = z ∙ go s.refused (sym (ap (λ (y : Said). y.refused) e) ∙ q)
     where
@@ -241,42 +234,42 @@ pub outside-says : (h : Header) (g : Given) (m : Message) (w : ℕ) (fresh s lef
 outside-says h g m w fresh s left x ew e d = d.says ∙ (λ i. saying (on_frame (terms g (groups_of h)) (call g (fresh_of (ew i) fresh)) (e i) m))
 
 -- no slot: the table stays
-outside-leaves : (t : List ℕ) (f : Found) (s : Step) (a : List ℕ) (r : Answer) → Bytes t → sound t ≡ true → seating (decode_table t) f ≡ found.Nothing → r ≡ answers_outside s a → Leaves r t (finishes t f s a)
+outside-leaves : (t : List ℕ) (f : Option ℕ) (s : Step) (a : List ℕ) (r : Told) → Bytes t → sound t ≡ true → seating (decode_table t) f ≡ None → r ≡ answers_outside s a → Leaves r t (finishes t f s a)
 unfolding finishes finish_at ends
-outside-leaves t f s a r b w e z = subst (λ (g : Found). Leaves r t (if s.refused then refuse t why.Full else finish_at g t s a)) (sym e) (go s.refused z)
+outside-leaves t f s a r b w e z = subst (λ (g : Option ℕ). Leaves r t (if s.refused then refuse t why.Full else finish_at g t s a)) (sym e) (go s.refused z)
   where
-    go : (b : Bool) → r ≡ (if b then refused why.Full else said s a) → Leaves r t (if b then refuse t why.Full else finish_at found.Nothing t s a)
+    go : (b : Bool) → r ≡ (if b then refused why.Full else said s a) → Leaves r t (if b then refuse t why.Full else finish_at None t s a)
     go true q = record { answer = q; table = refl }
     go false q = record { answer = q; table = sym (recounted-again t b w) }
 
-module _ (t : List ℕ) (h : Header) (f : Found) (H : Held t h f) (g : Given) (B : Brought g h) (m : Message) (fresh : List (List ℕ)) (r : Answer) where
+module _ (t : List ℕ) (h : Header) (f : Option ℕ) (H : Held t h f) (g : Given) (B : Brought g h) (m : Message) (fresh : List (List ℕ)) (r : Told) where
   -- in the slot
-  pub hear-seated : (k : ℕ) (j : Found) (u v : List ℕ) (x : Said) → Bytes t → j ≡ seating (decode_table t) f → j ≡ found.At k
+  pub hear-seated : (k : ℕ) (j : Option ℕ) (u v : List ℕ) (x : Said) → Bytes t → j ≡ seating (decode_table t) f → j ≡ Some k
       → DoesAt x u t k (on_frame (terms g (groups_of h)) (call g fresh) (slot (decode_table t) k) m) → (r ≡ answered x g.address) × (v ≡ encode_table (recounted (decode_table u)))
       → Leaves r v (finishes t f (on_frame (terms_of (decode_table t) f) (call g fresh) (look_by (decode_table t) f) m) g.address)
   hear-seated k j u v x b p q d w =
-      let e : seating (decode_table t) f ≡ found.At k = sym p ∙ q in
+      let e : seating (decode_table t) f ≡ Some k = sym p ∙ q in
       let T = seated-terms g h (decode_table t) f k H.header B e in
       let P = look-seat t f k b H.seated e in
       seat-done t f k u v g.address x _ _ r e (frame-seated _ _ _ m (ap (λ (y : Terms). y.full) (sym T) ∙ B.full)) (λ i. on_frame (sym T i) (call g fresh) (P i) m) d w
 
   -- without one
-  look_none : seating (decode_table t) f ≡ found.Nothing → look_by (decode_table t) f ≡ no_peer
+  look_none : seating (decode_table t) f ≡ None → look_by (decode_table t) f ≡ no_peer
   unfolding look_by
   look_none e = ap (look_by (decode_table t)) (seat-none (decode_table t) f e).0
 
-  pub hear-unseated : (j : Found) (y : Given) → Bytes t → j ≡ seating (decode_table t) f → j ≡ found.Nothing → y ≡ slotless g
+  pub hear-unseated : (j : Option ℕ) (y : Given) → Bytes t → j ≡ seating (decode_table t) f → j ≡ None → y ≡ slotless g
       → r ≡ answers_outside (on_frame (terms y (groups_of h)) (call y fresh) no_peer m) y.address
       → Leaves r t (finishes t f (on_frame (terms_of (decode_table t) f) (call g fresh) (look_by (decode_table t) f) m) g.address)
   hear-unseated j y b p q ey z =
-      let e : seating (decode_table t) f ≡ found.Nothing = sym p ∙ q in
+      let e : seating (decode_table t) f ≡ None = sym p ∙ q in
       let T = unseated-terms g h (decode_table t) f H.header B e in
       outside-leaves t f _ g.address r b H.seated.whole e
       (z ∙ ap (λ (i : Given). answers_outside (on_frame (terms i (groups_of h)) (call i fresh) no_peer m) i.address) ey
       ∙ (λ i. answers_outside (on_frame (T i) (call g fresh) (sym (look_none e) i) m) g.address))
 
 -- the step of the call
-pub frame_is : (t : List ℕ) (f : Found) (a : List ℕ) (time : ℕ) (frame fresh expected token : List ℕ) (verdict : ℕ) (h : Header) (w : View) (g : Given)
+pub frame_is : (t : List ℕ) (f : Option ℕ) (a : List ℕ) (time : ℕ) (frame fresh expected token : List ℕ) (verdict : ℕ) (h : Header) (w : View) (g : Given)
     → h ≡ (decode_table t).header → w ≡ view (groups_of h) frame → token ≡ expected → g ≡ given_by h a time token (verdict is 1)
     → on_frame (terms_of (decode_table t) f) (call g (fresh_in h fresh)) (look_by (decode_table t) f) (message_of frame w) ≡ frame_step (decode_table t) f a time frame fresh expected verdict
 unfolding frame_step message
@@ -301,20 +294,20 @@ pub given-brought : (h : Header) (a : List ℕ) (time : ℕ) (expected : List �
 given-brought h a time expected v g e = subst (λ (x : Given). Brought x h) (sym e) (brought h a time expected v)
 
 pub receive-goes : (t a frame fresh expected : List ℕ) (verdict : ℕ) (e : Entrance) → Enters e t a → (A : Admitted) → TakesFrame A e.header e.entry frame fresh expected verdict
-    → (f : Found) → A.turn ≡ Go f → Gone t e.header f fresh expected
+    → (f : Option ℕ) → A.turn ≡ Ok f → Gone t e.header f fresh expected
 receive-goes t a frame fresh expected verdict e E A K f q = frame-goes t e.header frame fresh expected verdict e.entry f (enters-met t a e E) (sym (K.turn t (enters-met t a e E)) ∙ q)
 
 -- the call, by what its entry came to
 module _ (t a : List ℕ) (time : ℕ) (frame fresh expected : List ℕ) (verdict : ℕ) (e : Entrance) (E : Enters e t a) (A : Admitted)
-    (K : TakesFrame A e.header e.entry frame fresh expected verdict) (r : Answer) where
+    (K : TakesFrame A e.header e.entry frame fresh expected verdict) (r : Told) where
   turn_is : A.turn ≡ frame_turn (entry t a) t frame fresh expected verdict
-  turn_is = K.turn t (enters-met t a e E) ∙ ap (λ (y : Entry). frame_turn y t frame fresh expected verdict) E.entry
+  turn_is = K.turn t (enters-met t a e E) ∙ ap (λ (y : Result (Option ℕ) Refusal). frame_turn y t frame fresh expected verdict) E.entry
 
-  pub receive-refused : (c : Refusal) → A.turn ≡ Refused c → r ≡ refused c → Leaves r t (receives t a time frame fresh expected verdict)
+  pub receive-refused : (c : Refusal) → A.turn ≡ Err c → r ≡ refused c → Leaves r t (receives t a time frame fresh expected verdict)
   unfolding receives
   receive-refused c q z = turned-refused _ _ t a A.turn turn_is r c q z
 
-  pub receive-went : (f : Found) (token : List ℕ) (g : Given) (u : List ℕ) → A.turn ≡ Go f → token ≡ expected → g ≡ given_by e.header a time token (verdict is 1)
+  pub receive-went : (f : Option ℕ) (token : List ℕ) (g : Given) (u : List ℕ) → A.turn ≡ Ok f → token ≡ expected → g ≡ given_by e.header a time token (verdict is 1)
       → Leaves r u (finishes t f (on_frame (terms_of (decode_table t) f) (call g (fresh_in e.header fresh)) (look_by (decode_table t) f) (message_of frame A.view)) g.address) → Leaves r u (receives t a time frame fresh expected verdict)
   unfolding receives
   receive-went f token g u q et eg l =

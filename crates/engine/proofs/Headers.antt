@@ -1,4 +1,5 @@
 -- What was loaded and tested once: the header's groups and slots, the fresh commits, and what an address came to.
+use Rattle.std.specs.Prelude.{Option, Some, None, Result, Ok}
 use mathlib.Core.Path.{◌≡◌, refl, sym, ap, ◌∙◌, subst}
 use mathlib.Core.Logic.{◌⊎◌, inl, inr}
 use mathlib.Core.Bool.{true}
@@ -12,8 +13,6 @@ use lib.ListN.{length, take, drop, replicate, length-replicate}
 use lib.Pow.{pow_mono}
 use lib.Seq.{length-take-le}
 use Rattle.octets.specs.Octets.{Bytes}
-use Rattle.octets.specs.declared.Found.{Found}
-use Rattle.octets.specs.declared.Found.TheVariants as found
 use Rattle.groups.specs.Groups.{width, fresh_ok, Storable}
 use Rattle.groups.proofs.Laws.{take-zeros}
 use Rattle.groups.proofs.Fresh.{fresh-length}
@@ -28,9 +27,7 @@ use Rattle.soundness.proofs.Laws.{header-form, settings-form, period-range, limi
 use Rattle.table.specs.Table as table
 use Rattle.table.specs.Table.{decode_table, slots, slot, sound, entry, Reached, Sized, Enters}
 use Rattle.table.specs.declared.Entrance.{Entrance}
-use Rattle.table.specs.declared.Entry.{Entry}
-use Rattle.table.specs.declared.Entry.TheVariants as entry-is
-use Rattle.table.proofs.Laws.{sound-header, sound-peer, sound-whole, peers-held, sized, reached, entry_at, entry_absent}
+use Rattle.table.proofs.Laws.{entry-found, sound-header, sound-peer, sound-whole, peers-held, sized, reached}
 use Rattle.table.proofs.Fit.{fit-slot, fit-decoded}
 use Rattle.table.proofs.Octets.{window-law, window-length}
 use Rattle.rules.specs.declared.Clock.{Clock}
@@ -40,6 +37,7 @@ use Rattle.message.specs.View.{message_of}
 use Rattle.answers.specs.Answers.{Seated, seating}
 use Rattle.answers.proofs.Laws.{Entered, old, new, entered-seated, seated-ready}
 use Rattle.engine.specs.InSlot.{Held, Met, Listing, Stocks, Fitting, Clocked}
+use Rattle.causes.specs.declared.Refusal.{Refusal}
 
 -- ---- the listed groups
 
@@ -77,7 +75,7 @@ module _ (h : Header) (ok : header_ok h ≡ true) (three : length h.settings.gro
 
 -- ---- where the record is
 
-module _ (t : List ℕ) (h : Header) (f : Found) (H : Held t h f) where
+module _ (t : List ℕ) (h : Header) (f : Option ℕ) (H : Held t h f) where
   pub held-header : header_ok h ≡ true
   held-header = ap header_ok H.header ∙ sound-header t H.seated.whole
 
@@ -89,34 +87,34 @@ module _ (t : List ℕ) (h : Header) (f : Found) (H : Held t h f) where
   held-sized w e = sized t h w H.seated.whole H.header e.0 e.1
 
 -- a slot of it
-pub held_at : (t : List ℕ) (h : Header) (f : Found) (k : ℕ) → Held t h f → seating (decode_table t) f ≡ found.At k → Held t h (found.At k)
+pub held_at : (t : List ℕ) (h : Header) (f : Option ℕ) (k : ℕ) → Held t h f → seating (decode_table t) f ≡ Some k → Held t h (Some k)
 held_at t h f k H e =
     record {
       seated = record { whole = H.seated.whole; below = λ j z. let y : k ≡ j = cc in subst (λ (i : ℕ). i < slots (decode_table t)) y (seated-ready t f k H.seated e).below };
       header = H.header;
     }
 
-pub held-ready : (t : List ℕ) (h : Header) (k : ℕ) → Held t h (found.At k) → table.Ready t k
+pub held-ready : (t : List ℕ) (h : Header) (k : ℕ) → Held t h (Some k) → table.Ready t k
 unfolding seating
-held-ready t h k H = seated-ready t (found.At k) k H.seated refl
+held-ready t h k H = seated-ready t (Some k) k H.seated refl
 
-pub held-reached : (t : List ℕ) (h : Header) (k : ℕ) → Held t h (found.At k) → (w : ℕ) → (w ≡ width_in h) × (w ≤ width) → Reached t w k
+pub held-reached : (t : List ℕ) (h : Header) (k : ℕ) → Held t h (Some k) → (w : ℕ) → (w ≡ width_in h) × (w ≤ width) → Reached t w k
 held-reached t h k H w e = reached t h w k H.seated.whole H.header e.0 e.1 (H.seated.below k refl)
 
 -- what an address came to
 module _ (t a : List ℕ) (r : Entrance) (E : Enters r t a) where
-  entered : (f : Found) → Entered t a f → sound t ≡ true → Held t r.header f
+  entered : (f : Option ℕ) → Entered t a f → sound t ≡ true → Held t r.header f
   entered f e s = record { seated = entered-seated t a f e; header = E.header s }
 
   pub enters-met : Met t r.header r.entry
   enters-met =
       record {
-        here = λ k q. let e : entry t a ≡ entry-is.At k = sym E.entry ∙ q in entered (found.At k) (old e) (entry_at t a k e).0;
-        absent = λ q. let e : entry t a ≡ entry-is.Absent = sym E.entry ∙ q in entered found.Nothing (new e) (entry_absent t a e).0;
+        here = λ k q. let e : entry t a ≡ Ok (Some k) = sym E.entry ∙ q in entered (Some k) (old e) (entry-found t a (Some k) e).0;
+        absent = λ q. let e : entry t a ≡ Ok None = sym E.entry ∙ q in entered None (new e) (entry-found t a None e).0;
       }
 
-pub met-listing : (t : List ℕ) (h : Header) (E : Entry) → Met t h E → Listing h E
-met-listing t h E M = record { here = λ k q. held-header t h (found.At k) (M.here k q); absent = λ q. held-header t h found.Nothing (M.absent q) }
+pub met-listing : (t : List ℕ) (h : Header) (E : Result (Option ℕ) Refusal) → Met t h E → Listing h E
+met-listing t h E M = record { here = λ k q. held-header t h (Some k) (M.here k q); absent = λ q. held-header t h None (M.absent q) }
 
 -- ---- the clock: the longest delay that settings have, 1,000 × 2^11 ms, fits
 
@@ -155,7 +153,7 @@ peer-range own gs high p h e = elim (ℕ_discrete p.used 0) [
   | no d ↦ run-range gs high p.run h.run (peer-in-use own gs high p d e).run
 ]
 
-slot-range : (t : List ℕ) (k : ℕ) → Bytes t → Seated t (found.At k) → InRange (high_sync (decode_table t).header) (slot (decode_table t) k).run
+slot-range : (t : List ℕ) (k : ℕ) → Bytes t → Seated t (Some k) → InRange (high_sync (decode_table t).header) (slot (decode_table t) k).run
 slot-range t k b S =
     let w = S.whole in
     let l = S.below k refl in
@@ -166,7 +164,7 @@ slot-range t k b S =
 abbrev pub window : List ℕ → ℕ → ℕ → List ℕ
 window t a n = take (a + n - a) (drop a t)
 
-module _ (t : List ℕ) (h : Header) (k : ℕ) (H : Held t h (found.At k)) (w : ℕ) (ew : (w ≡ width_in h) × (w ≤ width)) (a n : ℕ) (ea : a ≡ record_at w k) (en : n ≡ record_size w) where
+module _ (t : List ℕ) (h : Header) (k : ℕ) (H : Held t h (Some k)) (w : ℕ) (ew : (w ≡ width_in h) × (w ≤ width)) (a n : ℕ) (ea : a ≡ record_at w k) (en : n ≡ record_size w) where
   pub window-is : decode_peer w (window t a n) ≡ slot (decode_table t) k
   window-is = window-law t w k a (held-reached t h k H w ew) ea n en
 
@@ -175,7 +173,7 @@ module _ (t : List ℕ) (h : Header) (k : ℕ) (H : Held t h (found.At k)) (w : 
       let e : κ.limit ≡ limit_of (decode_table t).header.settings.limit = c.limit ∙ ap (λ (x : Header). limit_of x.settings.limit) H.header in
       let r = subst (λ (p : Peer). InRange (high_sync (decode_table t).header) p.run) (sym window-is) (slot-range t k b H.seated) in
       record {
-        paced = paced κ h (held-header t h (found.At k) H) c;
+        paced = paced κ h (held-header t h (Some k) H) c;
         most = ew.1;
         size = window-length t w k a (held-reached t h k H w ew) ea n en;
         sync = omega (arith, e, r.0);

@@ -7,10 +7,7 @@ use native.Mathlib.Omega.{arith}
 use lib.ListN.{length, replicate}
 use borrow.Author.Tests.{eq-eqb, ne_eqb}
 use Rattle.octets.specs.Octets.{Bytes}
-use Rattle.std.specs.Prelude.{if◌then◌else◌}
-use Rattle.octets.specs.Scan.{is_nothing}
-use Rattle.octets.specs.declared.Found.{Found}
-use Rattle.octets.specs.declared.Found.TheVariants as found
+use Rattle.std.specs.Prelude.{if◌then◌else◌, Option, Some, None, Result, Ok, Err, is_none}
 use Rattle.groups.specs.Groups.{width, fresh_ok}
 use Rattle.record.specs.declared.Header.{Header}
 use Rattle.record.specs.declared.Settings.{Settings}
@@ -19,8 +16,6 @@ use Rattle.record.proofs.Windows.{no-peer-left}
 use Rattle.table.specs.Table.{Table, decode_table, encode_table, recounted, slot, look_by, entry, Enters}
 use Rattle.table.specs.declared.Entrance.{Entrance}
 use Rattle.record.proofs.Laws.{wide-served}
-use Rattle.table.specs.declared.Entry.{Entry}
-use Rattle.table.specs.declared.Entry.TheVariants as entry-is
 use Rattle.initial.specs.Initial.{made, initial_ok, initial}
 use Rattle.initial.proofs.Initial.{initial-ok-form, initial-recounted}
 use Rattle.rules.specs.declared.Clock.{Clock}
@@ -31,12 +26,9 @@ use Rattle.rules.specs.Book.{has_run, on_start}
 use Rattle.rules.specs.Given.{terms, call}
 use Rattle.rules.specs.Said.{Does, saying_frames}
 use Rattle.rule_laws.proofs.Slots.{start-refused, start-seated}
-use Rattle.answers.specs.declared.Answer.{Answer}
-use Rattle.answers.specs.declared.Refusal.{Refusal}
-use Rattle.answers.specs.declared.Refusal.TheVariants as why
-use Rattle.answers.specs.declared.Turn.{Turn}
-use Rattle.answers.specs.declared.Turn.TheVariants.{Refused, Go}
-use Rattle.answers.specs.Answers.{Leaves, ends, seating, refused, quiet, answered, finishes, turned}
+use Rattle.causes.specs.declared.Refusal.{Refusal}
+use Rattle.causes.specs.declared.Refusal.TheVariants as why
+use Rattle.answers.specs.Answers.{Told, Leaves, ends, seating, refused, quiet, answered, finishes, turned}
 use Rattle.answers.proofs.Laws.{clashed, full-refused, turned-refused, turned-go}
 use Rattle.calls.specs.Calls.{crowded, full, terms_of, clock_of, brings, fresh_in, initializes, admit_start, start_turn, start_step, initiates, kill_turn, kill_step, kills}
 use Rattle.engine.specs.InSlot.{Held, Met, Stocks, given_by, slotless, Clocked, Brought, DoesAt}
@@ -46,25 +38,25 @@ use Rattle.engine.proofs.Windows.{look-seat, seat-done}
 -- ---- what a rule is given
 
 -- a slot is there, or none is
-seat-free : (T : Table) (f : Found) (k : ℕ) → seating T f ≡ found.At k → (is_nothing f && full T) ≡ false
+seat-free : (T : Table) (f : Option ℕ) (k : ℕ) → seating T f ≡ Some k → (is_none f && full T) ≡ false
 unfolding seating full
-seat-free T (found.At j) k e = refl
-seat-free T found.Nothing k e = rw e refl
+seat-free T (Some j) k e = refl
+seat-free T None k e = rw e refl
 
-pub seat-none : (T : Table) (f : Found) → seating T f ≡ found.Nothing → (f ≡ found.Nothing) × ((is_nothing f && full T) ≡ true)
+pub seat-none : (T : Table) (f : Option ℕ) → seating T f ≡ None → (f ≡ None) × ((is_none f && full T) ≡ true)
 unfolding seating full
-seat-none T (found.At j) e = let z : ◌≡◌ {A = ℕ} 0 1 = cc in absurd (omega arith)
-seat-none T found.Nothing e = (refl, rw e refl)
+seat-none T (Some j) e = let z : ◌≡◌ {A = ℕ} 0 1 = cc in absurd (omega arith)
+seat-none T None e = (refl, rw e refl)
 
 given-terms : (g : Given) (h : Header) (T : Table) (b : Bool) → h ≡ T.header → g.own ≡ h.own → g.crowded ≡ crowded h → g.full ≡ b
     → terms g (groups_of h) ≡ record { own = T.header.own; groups = groups_of T.header; crowded = crowded T.header; full = b }
 given-terms g h T b e o c f =
     λ i. record { own = (o ∙ ap (λ (x : Header). x.own) e) i; groups = groups_of (e i); crowded = (c ∙ ap crowded e) i; full = f i }
 
-pub seated-terms : (g : Given) (h : Header) (T : Table) (f : Found) (k : ℕ) → h ≡ T.header → Brought g h → seating T f ≡ found.At k → terms g (groups_of h) ≡ terms_of T f
+pub seated-terms : (g : Given) (h : Header) (T : Table) (f : Option ℕ) (k : ℕ) → h ≡ T.header → Brought g h → seating T f ≡ Some k → terms g (groups_of h) ≡ terms_of T f
 seated-terms g h T f k e B q = given-terms g h T _ e B.own B.crowded (B.full ∙ sym (seat-free T f k q))
 
-pub unseated-terms : (g : Given) (h : Header) (T : Table) (f : Found) → h ≡ T.header → Brought g h → seating T f ≡ found.Nothing → terms (slotless g) (groups_of h) ≡ terms_of T f
+pub unseated-terms : (g : Given) (h : Header) (T : Table) (f : Option ℕ) → h ≡ T.header → Brought g h → seating T f ≡ None → terms (slotless g) (groups_of h) ≡ terms_of T f
 unseated-terms g h T f e B q = given-terms (slotless g) h T _ e B.own B.crowded (sym (seat-none T f q).1)
 
 -- what `given_of` shows
@@ -92,11 +84,11 @@ slotless-clocked h g y B e = subst (λ (x : Given). Clocked x.clock h) (sym e) B
 
 -- ---- the state of a run
 
-pub state-there : (T : Table) (f : Found) (k r : ℕ) → f ≡ found.At k → r ≡ (slot T k).run.state → r ≡ (look_by T f).run.state
+pub state-there : (T : Table) (f : Option ℕ) (k r : ℕ) → f ≡ Some k → r ≡ (slot T k).run.state → r ≡ (look_by T f).run.state
 unfolding look_by
 state-there T f k r e q = rw e q
 
-pub state-none : (T : Table) (f : Found) → f ≡ found.Nothing → 0 ≡ (look_by T f).run.state
+pub state-none : (T : Table) (f : Option ℕ) → f ≡ None → 0 ≡ (look_by T f).run.state
 unfolding look_by no_peer no_run
 state-none T f e = rw e refl
 
@@ -106,89 +98,89 @@ state-none T f e = rw e refl
 pub stock-tested : (h : Header) (fresh : List ℕ) (w : ℕ) (b x : Bool) → w ≡ width_in h → b ≡ fresh_ok w (groups_of h) fresh → not b ≡ x → not (fresh_ok (width_in h) (groups_of h) fresh) ≡ x
 stock-tested h fresh w b x ew eb q = ap (λ (W : ℕ). not (fresh_ok W (groups_of h) fresh)) (sym ew) ∙ ap not (sym eb) ∙ q
 
-module _ (t : List ℕ) (h : Header) (f : Found) (fresh : List ℕ) (w : ℕ) (b : Bool) (eh : h ≡ (decode_table t).header) (ew : w ≡ width_in h) (eb : b ≡ fresh_ok w (groups_of h) fresh) where
+module _ (t : List ℕ) (h : Header) (f : Option ℕ) (fresh : List ℕ) (w : ℕ) (b : Bool) (eh : h ≡ (decode_table t).header) (ew : w ≡ width_in h) (eb : b ≡ fresh_ok w (groups_of h) fresh) where
   of-table : (x : Bool) → not b ≡ x → not (fresh_ok (width_in (decode_table t).header) (groups_of (decode_table t).header) fresh) ≡ x
   of-table x q = ap (λ (g : Header). not (fresh_ok (width_in g) (groups_of g) fresh)) (sym eh) ∙ stock-tested h fresh w b x ew eb q
 
-  pub start-stock : not b ≡ true → Refused why.Fresh ≡ admit_start (decode_table t) f fresh
+  pub start-stock : not b ≡ true → Err why.Fresh ≡ admit_start (decode_table t) f fresh
   unfolding admit_start
   start-stock q = rw (of-table true q) refl
 
-  pub start-running : (n : ℕ) → not b ≡ false → n ≡ (look_by (decode_table t) f).run.state → (n ≡ 0 → ⊥) → Refused why.Running ≡ admit_start (decode_table t) f fresh
+  pub start-running : (n : ℕ) → not b ≡ false → n ≡ (look_by (decode_table t) f).run.state → (n ≡ 0 → ⊥) → Err why.Running ≡ admit_start (decode_table t) f fresh
   unfolding admit_start
   start-running n q e d =
       let y : has_run (look_by (decode_table t) f) ≡ true = rw (ne_eqb _ _ (λ z. d (e ∙ z))) refl in
       rw (of-table false q, y) refl
 
-  pub start-go : (n : ℕ) → not b ≡ false → n ≡ (look_by (decode_table t) f).run.state → n ≡ 0 → Go f ≡ admit_start (decode_table t) f fresh
+  pub start-go : (n : ℕ) → not b ≡ false → n ≡ (look_by (decode_table t) f).run.state → n ≡ 0 → Ok f ≡ admit_start (decode_table t) f fresh
   unfolding admit_start
   start-go n q e d =
       let y : has_run (look_by (decode_table t) f) ≡ false = rw (eq-eqb _ _ (sym e ∙ d)) refl in
       rw (of-table false q, y) refl
 
 -- which entry a start met
-pub start-by : (t fresh : List ℕ) (E x : Entry) (r : Turn) → E ≡ x → r ≡ start_turn x t fresh → r ≡ start_turn E t fresh
-start-by t fresh E x r q w = w ∙ ap (λ (y : Entry). start_turn y t fresh) (sym q)
+pub start-by : (t fresh : List ℕ) (E x : Result (Option ℕ) Refusal) (r : Result (Option ℕ) Refusal) → E ≡ x → r ≡ start_turn x t fresh → r ≡ start_turn E t fresh
+start-by t fresh E x r q w = w ∙ ap (λ (y : Result (Option ℕ) Refusal). start_turn y t fresh) (sym q)
 
 -- a start that goes on
-goes : (T : Table) (f g : Found) (fresh : List ℕ) → admit_start T f fresh ≡ Go g → (fresh_ok (width_in T.header) (groups_of T.header) fresh ≡ true) × (f ≡ g)
+goes : (T : Table) (f g : Option ℕ) (fresh : List ℕ) → admit_start T f fresh ≡ Ok g → (fresh_ok (width_in T.header) (groups_of T.header) fresh ≡ true) × (f ≡ g)
 unfolding admit_start
 goes T f g fresh e = go (fresh_ok (width_in T.header) (groups_of T.header) fresh) (has_run (look_by T f)) e
   where
-    go : (b v : Bool) → (if not b then Refused why.Fresh else if v then Refused why.Running else Go f) ≡ Go g → (b ≡ true) × (f ≡ g)
+    go : (b v : Bool) → (if not b then Err why.Fresh else if v then Err why.Running else Ok f) ≡ Ok g → (b ≡ true) × (f ≡ g)
     go false v q = clashed q
     go true true q = clashed q
     go true false q = (refl, cc)
 
 -- it has a table, a header and fresh commits
-pub stocks : (t : List ℕ) (h : Header) (f : Found) (fresh : List ℕ) → Held t h f → fresh_ok (width_in (decode_table t).header) (groups_of (decode_table t).header) fresh ≡ true → Stocks h fresh
+pub stocks : (t : List ℕ) (h : Header) (f : Option ℕ) (fresh : List ℕ) → Held t h f → fresh_ok (width_in (decode_table t).header) (groups_of (decode_table t).header) fresh ≡ true → Stocks h fresh
 stocks t h f fresh H e =
     record { header = held-header t h f H; places = held-places t h f H; each = ap (λ (g : Header). fresh_ok (width_in g) (groups_of g) fresh) H.header ∙ e }
 
-pub start-goes : (t : List ℕ) (h : Header) (fresh : List ℕ) (E : Entry) (f : Found) → Met t h E → start_turn E t fresh ≡ Go f → Held t h f × Stocks h fresh
+pub start-goes : (t : List ℕ) (h : Header) (fresh : List ℕ) (E : Result (Option ℕ) Refusal) (f : Option ℕ) → Met t h E → start_turn E t fresh ≡ Ok f → Held t h f × Stocks h fresh
 unfolding start_turn
-start-goes t h fresh entry-is.Unsound f M e = clashed e
-start-goes t h fresh entry-is.Unusable f M e = clashed e
-start-goes t h fresh entry-is.Absent f M e =
-    let w = goes (decode_table t) found.Nothing f fresh e in
+start-goes t h fresh (Err why.Unsound) f M e = clashed e
+start-goes t h fresh (Err why.Address) f M e = clashed e
+start-goes t h fresh (Ok None) f M e =
+    let w = goes (decode_table t) None f fresh e in
     let H = subst (Held t h) w.1 (M.absent refl) in
     (H, stocks t h f fresh H w.0)
-start-goes t h fresh (entry-is.At k) f M e =
-    let w = goes (decode_table t) (found.At k) f fresh e in
+start-goes t h fresh (Ok (Some k)) f M e =
+    let w = goes (decode_table t) (Some k) f fresh e in
     let H = subst (Held t h) w.1 (M.here k refl) in
     (H, stocks t h f fresh H w.0)
 
-module _ (t : List ℕ) (h : Header) (f : Found) (H : Held t h f) (a : List ℕ) (time : ℕ) (fresh : List ℕ) (r : Answer) where
+module _ (t : List ℕ) (h : Header) (f : Option ℕ) (H : Held t h f) (a : List ℕ) (time : ℕ) (fresh : List ℕ) (r : Told) where
   -- the step in the slot, finished
-  pub started : (k : ℕ) (g : Found) (u v : List ℕ) (x : Said) (y : Given) → Bytes t → g ≡ seating (decode_table t) f → g ≡ found.At k → y ≡ given_by h a time (replicate 32 0) false
+  pub started : (k : ℕ) (g : Option ℕ) (u v : List ℕ) (x : Said) (y : Given) → Bytes t → g ≡ seating (decode_table t) f → g ≡ Some k → y ≡ given_by h a time (replicate 32 0) false
       → DoesAt x u t k (on_start (terms y (groups_of h)) (call y (fresh_in h fresh)) (slot (decode_table t) k))
       → (r ≡ answered x a) × (v ≡ encode_table (recounted (decode_table u))) → Leaves r v (finishes t f (start_step (decode_table t) f a time fresh) a)
   unfolding start_step
   started k g u v x y b p q ey d w =
-      let e : seating (decode_table t) f ≡ found.At k = sym p ∙ q in
+      let e : seating (decode_table t) f ≡ Some k = sym p ∙ q in
       let T = seated-terms (given_by h a time (replicate 32 0) false) h (decode_table t) f k H.header (brought h a time (replicate 32 0) false) e in
       let P = look-seat t f k b H.seated e in
       seat-done t f k u v a x _ _ r e (start-seated _ _ _ (seat-free (decode_table t) f k e))
       ((λ i. on_start (sym T i) (brings a (clock_of (sym H.header i) time) (fresh_in (sym H.header i) fresh) (replicate 32 0) false) (P i))
       ∙ (λ i. on_start (terms (sym ey i) (groups_of h)) (call (sym ey i) (fresh_in h fresh)) (slot (decode_table t) k))) d w
 
-  pub start-full : (g : Found) → g ≡ seating (decode_table t) f → g ≡ found.Nothing → r ≡ refused why.Full → Leaves r t (finishes t f (start_step (decode_table t) f a time fresh) a)
+  pub start-full : (g : Option ℕ) → g ≡ seating (decode_table t) f → g ≡ None → r ≡ refused why.Full → Leaves r t (finishes t f (start_step (decode_table t) f a time fresh) a)
   unfolding start_step
   start-full g p q z = full-refused t a f _ r (start-refused _ _ _ ∙ (seat-none (decode_table t) f (sym p ∙ q)).1) z
 
-pub initiate-goes : (t a fresh : List ℕ) (e : Entrance) → Enters e t a → (w : Turn) → w ≡ start_turn e.entry t fresh → (f : Found) → w ≡ Go f → Held t e.header f × Stocks e.header fresh
+pub initiate-goes : (t a fresh : List ℕ) (e : Entrance) → Enters e t a → (w : Result (Option ℕ) Refusal) → w ≡ start_turn e.entry t fresh → (f : Option ℕ) → w ≡ Ok f → Held t e.header f × Stocks e.header fresh
 initiate-goes t a fresh e E w ew f q = start-goes t e.header fresh e.entry f (enters-met t a e E) (sym ew ∙ q)
 
 -- the call, by what its entry came to
-module _ (t a : List ℕ) (time : ℕ) (fresh : List ℕ) (e : Entrance) (E : Enters e t a) (w : Turn) (ew : w ≡ start_turn e.entry t fresh) (r : Answer) where
+module _ (t a : List ℕ) (time : ℕ) (fresh : List ℕ) (e : Entrance) (E : Enters e t a) (w : Result (Option ℕ) Refusal) (ew : w ≡ start_turn e.entry t fresh) (r : Told) where
   turn_is : w ≡ start_turn (entry t a) t fresh
-  turn_is = ew ∙ ap (λ (y : Entry). start_turn y t fresh) E.entry
+  turn_is = ew ∙ ap (λ (y : Result (Option ℕ) Refusal). start_turn y t fresh) E.entry
 
-  pub initiate-refused : (c : Refusal) → w ≡ Refused c → r ≡ refused c → Leaves r t (initiates t a time fresh)
+  pub initiate-refused : (c : Refusal) → w ≡ Err c → r ≡ refused c → Leaves r t (initiates t a time fresh)
   unfolding initiates
   initiate-refused c q z = turned-refused _ _ t a w turn_is r c q z
 
-  pub initiate-went : (f : Found) (u : List ℕ) → w ≡ Go f → Leaves r u (finishes t f (start_step (decode_table t) f a time fresh) a) → Leaves r u (initiates t a time fresh)
+  pub initiate-went : (f : Option ℕ) (u : List ℕ) → w ≡ Ok f → Leaves r u (finishes t f (start_step (decode_table t) f a time fresh) a) → Leaves r u (initiates t a time fresh)
   unfolding initiates
   initiate-went f u q l = turned-go _ _ t a w turn_is r f _ u q refl l
 
@@ -203,29 +195,29 @@ unfolding kill_step
 kill-seated = refl
 
 -- which entry a kill met
-kills-by : (t a : List ℕ) (e x : Entry) → e ≡ entry t a → e ≡ x → kills t a ≡ turned (kill_turn x) (λ f. kill_step) t a
+kills-by : (t a : List ℕ) (e x : Result (Option ℕ) Refusal) → e ≡ entry t a → e ≡ x → kills t a ≡ turned (kill_turn x) (λ f. kill_step) t a
 unfolding kills
-kills-by t a e x p q = ap (λ (y : Entry). turned (kill_turn y) (λ f. kill_step) t a) (sym p ∙ q)
+kills-by t a e x p q = ap (λ (y : Result (Option ℕ) Refusal). turned (kill_turn y) (λ f. kill_step) t a) (sym p ∙ q)
 
-pub kill-refused : (t a : List ℕ) (e x : Entry) (c : Refusal) (r : Answer) → e ≡ entry t a → e ≡ x → kill_turn x ≡ Refused c → r ≡ refused c → Leaves r t (kills t a)
+pub kill-refused : (t a : List ℕ) (e x : Result (Option ℕ) Refusal) (c : Refusal) (r : Told) → e ≡ entry t a → e ≡ x → kill_turn x ≡ Err c → r ≡ refused c → Leaves r t (kills t a)
 unfolding turned
 kill-refused t a e x c r p q k er =
-    let z : kills t a ≡ record { answer = refused c; table = t } = kills-by t a e x p q ∙ ap (λ (w : Turn). turned w (λ f. kill_step) t a) k in
+    let z : kills t a ≡ record { answer = refused c; table = t } = kills-by t a e x p q ∙ ap (λ (w : Result (Option ℕ) Refusal). turned w (λ f. kill_step) t a) k in
     subst (Leaves r t) (sym z) (record { answer = er; table = refl })
 
-pub kill-freed : (t a u : List ℕ) (e : Entry) (k : ℕ) (r : Answer) → e ≡ entry t a → e ≡ entry-is.At k → Leaves r u (finishes t (found.At k) kill_step a) → Leaves r u (kills t a)
+pub kill-freed : (t a u : List ℕ) (e : Result (Option ℕ) Refusal) (k : ℕ) (r : Told) → e ≡ entry t a → e ≡ Ok (Some k) → Leaves r u (finishes t (Some k) kill_step a) → Leaves r u (kills t a)
 unfolding turned kill_turn
-kill-freed t a u e k r p q l = subst (Leaves r u) (sym (kills-by t a e (entry-is.At k) p q)) l
+kill-freed t a u e k r p q l = subst (Leaves r u) (sym (kills-by t a e (Ok (Some k)) p q)) l
 
 -- ---- Set up
 
-pub initialize-done : (t own u : List ℕ) (s : Settings) (b : Bool) (r : Answer) → b ≡ initial_ok made s own (length t) → u ≡ initial made s own t → b ≡ true → r ≡ quiet own → Leaves r u (initializes made t own s)
+pub initialize-done : (t own u : List ℕ) (s : Settings) (b : Bool) (r : Told) → b ≡ initial_ok made s own (length t) → u ≡ initial made s own t → b ≡ true → r ≡ quiet own → Leaves r u (initializes made t own s)
 unfolding initializes initial ends
 initialize-done t own u s b r eb eu q er =
     let z : initial_ok made s own (length t) ≡ true = sym eb ∙ q in
     let n = initial-recounted made wide-served s own (length t) (initial-ok-form made s own (length t) z) in
     rw z (record { answer = er; table = eu ∙ rw z (ap encode_table (sym n)) })
 
-pub initialize-refused : (t own u : List ℕ) (s : Settings) (b : Bool) (r : Answer) → b ≡ initial_ok made s own (length t) → u ≡ initial made s own t → b ≡ false → r ≡ refused why.Settings → Leaves r u (initializes made t own s)
+pub initialize-refused : (t own u : List ℕ) (s : Settings) (b : Bool) (r : Told) → b ≡ initial_ok made s own (length t) → u ≡ initial made s own t → b ≡ false → r ≡ refused why.Settings → Leaves r u (initializes made t own s)
 unfolding initializes initial
 initialize-refused t own u s b r eb eu q er = let z : initial_ok made s own (length t) ≡ false = sym eb ∙ q in rw z (record { answer = er; table = eu ∙ rw z refl })

@@ -1,4 +1,5 @@
 -- A step in a slot, and the end of a call.
+use Rattle.std.specs.Prelude.{Option, Some, None}
 use mathlib.Core.Path.{◌≡◌, refl, sym, ap, ◌∙◌, subst}
 use mathlib.Core.Bool.{false}
 use mathlib.Core.List.{List}
@@ -8,8 +9,6 @@ use lib.ListN.{length}
 use borrow.Rule.Slice.PartMut.{put_mid}
 use Rattle.octets.specs.Octets.{Bytes, put}
 use Rattle.octets.proofs.Laws.{mid-put}
-use Rattle.octets.specs.declared.Found.{Found}
-use Rattle.octets.specs.declared.Found.TheVariants as found
 use Rattle.groups.specs.Groups.{width}
 use Rattle.record.specs.declared.Header.{Header}
 use Rattle.record.specs.declared.Peer.{Peer}
@@ -20,13 +19,12 @@ use Rattle.table.proofs.Changed.{with-peer-decoded, changed}
 use Rattle.rules.specs.declared.Said.{Said}
 use Rattle.rules.specs.Book.{Step}
 use Rattle.rules.specs.Said.{Does, saying}
-use Rattle.answers.specs.declared.Answer.{Answer}
-use Rattle.answers.specs.Answers.{Leaves, Seated, seating, answered, finishes}
+use Rattle.answers.specs.Answers.{Told, Leaves, Seated, seating, answered, finishes}
 use Rattle.answers.proofs.Laws.{free-record, finish-law}
 use Rattle.engine.specs.InSlot.{Held, DoesAt}
 use Rattle.engine.proofs.Headers.{held-ready, held-reached, window, window-is}
 
-module _ (t : List ℕ) (h : Header) (k : ℕ) (H : Held t h (found.At k)) where
+module _ (t : List ℕ) (h : Header) (k : ℕ) (H : Held t h (Some k)) where
   module _ (w : ℕ) (ew : (w ≡ width_in h) × (w ≤ width)) (a n : ℕ) (ea : a ≡ record_at w k) (en : n ≡ record_size w) where
     -- what a rule leaves in the slot's octets
     pub at-does : (y : List ℕ) (x : Said) (s : Step) → length y ≡ a + n - a → Does w x y s → DoesAt x (put_mid a (a + n - a) t y) t k s
@@ -54,19 +52,19 @@ module _ (t : List ℕ) (h : Header) (k : ℕ) (H : Held t h (found.At k)) where
   slot-changed u x s was l d e = rw e (changed t u k s.peer h (held-ready t h k H) H.header l d.leaves)
 
 -- the record of a seat: the slot's, which is free for a new peer
-pub look-seat : (t : List ℕ) (f : Found) (k : ℕ) → Bytes t → Seated t f → seating (decode_table t) f ≡ found.At k → look_by (decode_table t) f ≡ slot (decode_table t) k
+pub look-seat : (t : List ℕ) (f : Option ℕ) (k : ℕ) → Bytes t → Seated t f → seating (decode_table t) f ≡ Some k → look_by (decode_table t) f ≡ slot (decode_table t) k
 unfolding look_by seating
-look-seat t (found.At j) k b S e = let y : j ≡ k = cc in ap (slot (decode_table t)) y
-look-seat t found.Nothing k b S e = sym (free-record t k b S.whole e)
+look-seat t (Some j) k b S e = let y : j ≡ k = cc in ap (slot (decode_table t)) y
+look-seat t None k b S e = sym (free-record t k b S.whole e)
 
 -- the end of a call whose step is s, which the code made as s' in slot k
-pub seat-done : (t : List ℕ) (f : Found) (k : ℕ) (u v a : List ℕ) (x : Said) (s s' : Step) (r : Answer) → seating (decode_table t) f ≡ found.At k → s.refused ≡ false → s ≡ s'
+pub seat-done : (t : List ℕ) (f : Option ℕ) (k : ℕ) (u v a : List ℕ) (x : Said) (s s' : Step) (r : Told) → seating (decode_table t) f ≡ Some k → s.refused ≡ false → s ≡ s'
     → DoesAt x u t k s' → (r ≡ answered x a) × (v ≡ encode_table (recounted (decode_table u))) → Leaves r v (finishes t f s a)
 seat-done t f k u v a x s s' r e n q d w =
     finish-law t a f s r u v k x n e (d.leaves ∙ ap (λ (y : Step). with_peer (decode_table t) k y.peer) (sym q)) (d.says ∙ ap saying (sym q)) w.0 w.1
 
 -- the same, of a record that is there
-pub slot-done : (t : List ℕ) (k : ℕ) (u v a : List ℕ) (x : Said) (s : Step) (r : Answer) → s.refused ≡ false → DoesAt x u t k s
-    → (r ≡ answered x a) × (v ≡ encode_table (recounted (decode_table u))) → Leaves r v (finishes t (found.At k) s a)
+pub slot-done : (t : List ℕ) (k : ℕ) (u v a : List ℕ) (x : Said) (s : Step) (r : Told) → s.refused ≡ false → DoesAt x u t k s
+    → (r ≡ answered x a) × (v ≡ encode_table (recounted (decode_table u))) → Leaves r v (finishes t (Some k) s a)
 unfolding seating
-slot-done t k u v a x s r n d w = seat-done t (found.At k) k u v a x s s r refl n refl d w
+slot-done t k u v a x s r n d w = seat-done t (Some k) k u v a x s s r refl n refl d w

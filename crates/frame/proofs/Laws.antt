@@ -1,4 +1,5 @@
 -- Laws of bodies: where each part of a body stands, and what the stores of a writer make.
+use Rattle.std.specs.Prelude.{Result, Ok, Err}
 use mathlib.Core.Path.{◌≡◌, refl, sym, ap, ◌∙◌}
 use mathlib.Core.Bool.{true, false}
 use mathlib.Core.List.{List, [], ◌++◌, append_assoc}
@@ -12,10 +13,10 @@ use Rattle.octets.specs.Octets.{part, put, oct}
 use Rattle.octets.proofs.Laws.{put-put, part-add}
 use Rattle.groups.specs.Groups.{width, scalar_length, element_length, commit_length}
 use Rattle.groups.proofs.Laws.{commit-fits}
-use Rattle.frame.specs.declared.Written.{Written}
-use Rattle.frame.specs.declared.Written.TheVariants.{Length, Shape, Short}
 use Rattle.frame.specs.Frame.{elements_of, token_of, scalar_of, element_of, commit_of, head, body}
 use Rattle.frame.specs.Writing.{Drawn, Octets, Outside, written, leaves, Writes}
+use Rattle.causes.specs.declared.Refusal.TheVariants as why
+use Rattle.causes.specs.declared.Refusal.{Refusal}
 
 -- ---- parts
 
@@ -110,21 +111,21 @@ head-law a b c s t u v w h p q r e =
 -- ---- a writer's outcome
 
 module _ (d : Drawn) (s : List ℕ) where
-  pub outside : d ≡ Outside → Writes d s s Shape
+  pub outside : d ≡ Outside → Writes d s s (Err why.Body)
   unfolding written leaves
   outside e = rw e (record { answers = refl; left_as = refl })
 
-pub drawn : (d e : Drawn) (s t : List ℕ) (r : Written) → d ≡ e → Writes e s t r → Writes d s t r
+pub drawn : (d e : Drawn) (s t : List ℕ) (r : Result ℕ Refusal) → d ≡ e → Writes e s t r → Writes d s t r
 drawn d e s t r p w = rw p w
 
 module _ (a b c : ℕ) (t r : List ℕ) (s : List ℕ) where
-  pub too_long : length s < 8 + length t + length r → Writes (Octets (body a b c t r)) s s Short
+  pub too_long : length s < 8 + length t + length r → Writes (Octets (body a b c t r)) s s (Err why.Short)
   unfolding written leaves
   too_long h =
       let q : ltb (length s) (length (body a b c t r)) ≡ true = lt-ltb (length s) (length (body a b c t r)) (omega (arith, length-body a b c t r)) in
       record { answers = rw q; left_as = rw q }
 
-  pub all-stored : (x y z : List ℕ) (n : ℕ) → 8 + length t + length r ≤ length s → n ≡ 8 + length t + length r → x ≡ put s 0 (head a b c) → y ≡ put x 8 t → z ≡ put y (8 + length t) r → Writes (Octets (body a b c t r)) s z (Length n)
+  pub all-stored : (x y z : List ℕ) (n : ℕ) → 8 + length t + length r ≤ length s → n ≡ 8 + length t + length r → x ≡ put s 0 (head a b c) → y ≡ put x 8 t → z ≡ put y (8 + length t) r → Writes (Octets (body a b c t r)) s z (Ok n)
   unfolding written leaves body
   all-stored x y z n h m p q e =
       let l : length (head a b c ++ (t ++ r)) ≡ 8 + length t + length r = length-body a b c t r in
@@ -133,4 +134,4 @@ module _ (a b c : ℕ) (t r : List ℕ) (s : List ℕ) where
       let w : z ≡ put s 0 (head a b c ++ (t ++ r)) =
       store-next s y z (head a b c ++ t) r (8 + length t) k (omega arith) (store-next s x y (head a b c) t 8 (length-head a b c) (omega arith) p q) e
       ∙ ap (put s 0) (append_assoc (head a b c) t r) in
-      record { answers = rw o (ap Length (m ∙ sym l)); left_as = rw o w }
+      record { answers = rw o (ap Ok (m ∙ sym l)); left_as = rw o w }

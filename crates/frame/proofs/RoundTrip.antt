@@ -9,11 +9,11 @@ use lib.ListN.{length, take, drop, length-append}
 use lib.Seq.{length-take-le}
 use borrow.Author.Tests.{le-ltb, eq-eqb, ne_eqb}
 use Rattle.octets.specs.Octets.{part, oct, all_zero, Bytes}
-use Rattle.std.specs.Prelude.{if◌then◌else◌}
+use Rattle.std.specs.Prelude.{if◌then◌else◌, Some, None}
 use Rattle.octets.proofs.Laws.{num-oct, oct-part, part-add, part-all, length_part, bytes_take}
 use Rattle.groups.specs.Groups.{width, commit_length, listed, stored}
 use Rattle.groups.proofs.Laws.{commit-fits, stored-tail}
-use Rattle.frame.specs.declared.Body.TheVariants.{Commit, TokenRequest, GroupRefusal, OtherCommit, Confirm, OtherConfirm, Malformed}
+use Rattle.frame.specs.declared.Body.TheVariants.{Commit, TokenRequest, GroupRefusal, OtherCommit, Confirm, OtherConfirm}
 use Rattle.frame.specs.Frame.{algorithm_of, sequence_of, status_of, group_of, counter_of, read_listed, read_token_request, read_group_refusal, read_commit, whole_elements, elements_of, read_confirm, read_body, token_of, commit_of, value_of, is_offer, head, body, commit_body, token_request_body, group_refusal_body, confirm_body}
 use Rattle.frame.specs.Writing.{Octets, draw_commit, draw_token_request, draw_group_refusal, draw_confirm}
 use Rattle.frame.proofs.Laws.{part-mid, length-head, length-body, commit_is}
@@ -55,14 +55,14 @@ module _ (q x f : ℕ) (t r : List ℕ) where
 -- ---- what is written reads back
 
 -- a status 0 Commit, for every list that has the group
-pub commit-reads : (gs : List ℕ) (g : ℕ) (t c : List ℕ) → listed gs g ≡ true → g < 65536 → length t ≤ 256 → length c ≡ commit_length g → read_body gs (commit_body g t c) ≡ Commit g (length t)
+pub commit-reads : (gs : List ℕ) (g : ℕ) (t c : List ℕ) → listed gs g ≡ true → g < 65536 → length t ≤ 256 → length c ≡ commit_length g → read_body gs (commit_body g t c) ≡ Some (Commit g (length t))
 unfolding commit_body
 commit-reads gs g t c l h k e =
     let n : length (body 1 0 g t c) ≡ 8 + length t + length c = length-body 1 0 g t c in
     let w : commit_length g ≤ width = commit-fits g in
     let m : length (body 1 0 g t c) - (8 + commit_length g) ≡ length t = omega arith in
-    let r : Commit g (length t) ≡ read_listed g (body 1 0 g t c) =
-    ap (Commit g) (sym m) ∙ listed-read g (body 1 0 g t c) 8 (commit_length g) refl refl (omega arith) (omega arith) in
+    let r : Some (Commit g (length t)) ≡ read_listed g (body 1 0 g t c) =
+    ap (λ n. Some (Commit g n)) (sym m) ∙ listed-read g (body 1 0 g t c) 8 (commit_length g) refl refl (omega arith) (omega arith) in
     sym (body-commit gs (body 1 0 g t c) 3 (omega arith) (omega arith) (sym (body-algorithm 1 0 g t c)) 1 (sym (body-sequence 1 0 g t c (lit< tt))) refl _ refl
     (commit-offer gs (body 1 0 g t c) 0 (sym (body-status 1 0 g t c (lit< tt))) _ refl
     (offer-listed gs (body 1 0 g t c) g true (omega arith) (sym (body-third 1 0 g t c h)) (sym l) _ refl r)))
@@ -76,13 +76,13 @@ unfolding commit_body
 commit_back g t c e = commit_is (body 1 0 g t c) g (length t) ∙ ap (part (body 1 0 g t c) (8 + length t)) (sym e) ∙ body-rest 1 0 g t c
 
 -- a 76, for every list
-pub token-request-reads : (gs : List ℕ) (g : ℕ) (t : List ℕ) → g < 65536 → 1 ≤ length t → length t ≤ 256 → read_body gs (token_request_body g t) ≡ TokenRequest g (length t)
+pub token-request-reads : (gs : List ℕ) (g : ℕ) (t : List ℕ) → g < 65536 → 1 ≤ length t → length t ≤ 256 → read_body gs (token_request_body g t) ≡ Some (TokenRequest g (length t))
 unfolding token_request_body
 token-request-reads gs g t h j k =
     let n : length (body 1 76 g t []) ≡ 8 + length t + 0 = length-body 1 76 g t [] in
     let m : length (body 1 76 g t []) - 8 ≡ length t = omega arith in
-    let r : TokenRequest g (length t) ≡ read_token_request (body 1 76 g t []) =
-    ap (TokenRequest g) (sym m) ∙ request-read (body 1 76 g t []) g 8 (omega arith) (omega arith) (sym (body-third 1 76 g t [] h)) refl in
+    let r : Some (TokenRequest g (length t)) ≡ read_token_request (body 1 76 g t []) =
+    ap (λ n. Some (TokenRequest g n)) (sym m) ∙ request-read (body 1 76 g t []) g 8 (omega arith) (omega arith) (sym (body-third 1 76 g t [] h)) refl in
     sym (body-commit gs (body 1 76 g t []) 3 (omega arith) (omega arith) (sym (body-algorithm 1 76 g t [])) 1 (sym (body-sequence 1 76 g t [] (lit< tt))) refl _ refl
     (commit-request gs (body 1 76 g t []) 76 (sym (body-status 1 76 g t [] (lit< tt))) _ refl r))
 
@@ -91,7 +91,7 @@ unfolding token_request_body token_of
 token-request-back g t = body-token 1 76 g t []
 
 -- a 77, for every list
-pub group-refusal-reads : (gs : List ℕ) (g : ℕ) → g < 65536 → read_body gs (group_refusal_body g) ≡ GroupRefusal g
+pub group-refusal-reads : (gs : List ℕ) (g : ℕ) → g < 65536 → read_body gs (group_refusal_body g) ≡ Some (GroupRefusal g)
 unfolding group_refusal_body
 group-refusal-reads gs g h =
     let n : length (body 1 77 g [] []) ≡ 8 + 0 + 0 = length-body 1 77 g [] [] in
@@ -100,7 +100,7 @@ group-refusal-reads gs g h =
     (refusal-read (body 1 77 g [] []) g (omega arith) (sym (body-third 1 77 g [] [] h)))))
 
 -- a status 0 Confirm, for every list
-pub confirm-reads : (gs : List ℕ) (n : ℕ) (v : List ℕ) → n < 65536 → length v ≡ 32 → read_body gs (confirm_body n v) ≡ Confirm n
+pub confirm-reads : (gs : List ℕ) (n : ℕ) (v : List ℕ) → n < 65536 → length v ≡ 32 → read_body gs (confirm_body n v) ≡ Some (Confirm n)
 unfolding confirm_body
 confirm-reads gs n v h e =
     let l : length (body 2 0 n [] v) ≡ 8 + 0 + length v = length-body 2 0 n [] v in
@@ -121,12 +121,12 @@ offer-status gs s h =
     (eqb (status_of s) 76) (ltb (length s) 9) (ltb 264 (length s)) (eqb (status_of s) 77) (eqb (length s) 8))
   where
     go : (a b c d e f i j k l : Bool) → is_offer
-        (if a then Malformed else if b then Malformed else if c then
+        (if a then None else if b then None else if c then
         (if d then
-        (if f then (if i then Malformed else if j then Malformed else TokenRequest (group_of s) (length s - 8))
-        else if k then (if l then GroupRefusal (group_of s) else Malformed) else OtherCommit (status_of s))
-        else if e then OtherConfirm (status_of s) else Malformed)
-        else Malformed) ≡ false
+        (if f then (if i then None else if j then None else Some (TokenRequest (group_of s) (length s - 8)))
+        else if k then (if l then Some (GroupRefusal (group_of s)) else None) else Some (OtherCommit (status_of s)))
+        else if e then Some (OtherConfirm (status_of s)) else None)
+        else None) ≡ false
     go true b c d e f i j k l = refl
     go false true c d e f i j k l = refl
     go false false false d e f i j k l = refl
@@ -146,9 +146,9 @@ offer-sequence gs s h =
     (go (ltb (length s) 6) (ltb 2304 (length s)) (eqb (algorithm_of s) 3) (eqb (sequence_of s) 2) (eqb (status_of s) 0) (ltb (length s) 40) (whole_elements (elements_of s)))
   where
     go : (a b c d e f i : Bool) → is_offer
-        (if a then Malformed else if b then Malformed else if c then
-        (if d then (if e then (if f then Malformed else if i then Confirm (counter_of s) else Malformed) else OtherConfirm (status_of s)) else Malformed)
-        else Malformed) ≡ false
+        (if a then None else if b then None else if c then
+        (if d then (if e then (if f then None else if i then Some (Confirm (counter_of s)) else None) else Some (OtherConfirm (status_of s))) else None)
+        else None) ≡ false
     go true b c d e f i = refl
     go false true c d e f i = refl
     go false false false d e f i = refl
@@ -186,7 +186,7 @@ body-whole s n m b a l =
     rw (p, q, x, f, h) (ap (λ (k : List ℕ). part s 0 8 ++ k) (sym (part-add s 8 n m)) ∙ sym (part-add s 0 8 (n + m)) ∙ part-all s (8 + (n + m)) e)
 
 -- a status 0 Commit in a listed group
-pub commit-again : (gs s : List ℕ) (g n : ℕ) → Bytes s → read_body gs s ≡ Commit g n → draw_commit gs g (token_of s n) (commit_of s g n) ≡ Octets s
+pub commit-again : (gs s : List ℕ) (g n : ℕ) → Bytes s → read_body gs s ≡ Some (Commit g n) → draw_commit gs g (token_of s n) (commit_of s g n) ≡ Octets s
 unfolding draw_commit commit_body token_of
 commit-again gs s g n b e =
     let w : CommitShape gs s g n = commit-shape gs s g n e in
@@ -205,17 +205,17 @@ unfolding part
 part_none s at = refl
 
 -- a stored commit is scalar and element, then zeros
-pub commit-length-read : (gs s : List ℕ) (g n : ℕ) → read_body gs s ≡ Commit g n → length (commit_of s g n) ≡ commit_length g
+pub commit-length-read : (gs s : List ℕ) (g n : ℕ) → read_body gs s ≡ Some (Commit g n) → length (commit_of s g n) ≡ commit_length g
 commit-length-read gs s g n e =
     let w : CommitShape gs s g n = commit-shape gs s g n e in
     let l : length s ≡ 8 + n + commit_length g = w.total in
     ap length (commit_is s g n) ∙ length_part s (8 + n) (commit_length g) (omega arith)
 
-pub commit-tail : (gs s : List ℕ) (g n : ℕ) → read_body gs s ≡ Commit g n → all_zero (drop (commit_length g) (stored (commit_of s g n))) ≡ true
+pub commit-tail : (gs s : List ℕ) (g n : ℕ) → read_body gs s ≡ Some (Commit g n) → all_zero (drop (commit_length g) (stored (commit_of s g n))) ≡ true
 commit-tail gs s g n e = stored-tail (commit_of s g n) (commit_length g) (commit-length-read gs s g n e)
 
 -- a 76
-pub token-request-again : (gs s : List ℕ) (g n : ℕ) → Bytes s → read_body gs s ≡ TokenRequest g n → draw_token_request g (token_of s n) ≡ Octets s
+pub token-request-again : (gs s : List ℕ) (g n : ℕ) → Bytes s → read_body gs s ≡ Some (TokenRequest g n) → draw_token_request g (token_of s n) ≡ Octets s
 unfolding draw_token_request token_request_body token_of
 token-request-again gs s g n b e =
     let w : TokenRequestShape s g n = token-request-shape gs s g n e in
@@ -233,7 +233,7 @@ token-request-again gs s g n b e =
     some k n e h z = omega arith
 
 -- a 77
-pub group-refusal-again : (gs s : List ℕ) (g : ℕ) → Bytes s → read_body gs s ≡ GroupRefusal g → draw_group_refusal g ≡ Octets s
+pub group-refusal-again : (gs s : List ℕ) (g : ℕ) → Bytes s → read_body gs s ≡ Some (GroupRefusal g) → draw_group_refusal g ≡ Octets s
 unfolding draw_group_refusal group_refusal_body part
 group-refusal-again gs s g b e =
     let w : GroupRefusalShape s g = group-refusal-shape gs s g e in
@@ -241,7 +241,7 @@ group-refusal-again gs s g b e =
     ap Octets (rw (w.sequence, w.status, w.group) at z)
 
 -- a status 0 Confirm of 40 octets
-confirm_again : (gs s : List ℕ) (n : ℕ) → Bytes s → read_body gs s ≡ Confirm n → length s ≡ 40 → draw_confirm n (value_of s) ≡ Octets s
+confirm_again : (gs s : List ℕ) (n : ℕ) → Bytes s → read_body gs s ≡ Some (Confirm n) → length s ≡ 40 → draw_confirm n (value_of s) ≡ Octets s
 unfolding draw_confirm confirm_body value_of part
 confirm_again gs s n b e l =
     let w : ConfirmShape s n = confirm-shape gs s n e in
@@ -250,7 +250,7 @@ confirm_again gs s n b e l =
     rw (eq-eqb (length (take 32 (drop 8 s))) 32 i) (ap Octets (rw (w.sequence, w.status, w.counter) at z))
 
 -- "The writer still writes 40": of any status 0 Confirm the first 40 octets
-pub confirm-first : (gs s : List ℕ) (n : ℕ) → Bytes s → read_body gs s ≡ Confirm n → draw_confirm n (value_of s) ≡ Octets (take 40 s)
+pub confirm-first : (gs s : List ℕ) (n : ℕ) → Bytes s → read_body gs s ≡ Some (Confirm n) → draw_confirm n (value_of s) ≡ Octets (take 40 s)
 confirm-first gs s n b e =
     let w = trailing gs s n e in
     ap (draw_confirm n) (sym w.value) ∙ confirm_again gs (take 40 s) n (bytes_take 40 s b) (w.first gs) (length-take-le 40 s (confirm-shape gs s n e).total)

@@ -1,4 +1,5 @@
 -- A Confirm and what follows its 40 octets: of a frame that was read, and of octets put behind one.
+use Rattle.std.specs.Prelude.{Some, None}
 use mathlib.Core.Path.{◌≡◌, refl, sym, ap, ◌∙◌}
 use mathlib.Core.Bool.{Bool, true, false}
 use mathlib.Core.List.{List, ◌++◌}
@@ -11,7 +12,7 @@ use lib.Seq.{take_at, drop_at, length-take-le}
 use borrow.Author.Tests.{ltb-true, ltb-false}
 use Rattle.octets.specs.Octets.{part, num}
 use Rattle.octets.proofs.Laws.{part-part}
-use Rattle.frame.specs.declared.Body.TheVariants.{Confirm, Malformed}
+use Rattle.frame.specs.declared.Body.TheVariants.{Confirm}
 use Rattle.frame.specs.Frame.{field, algorithm_of, sequence_of, status_of, counter_of, whole_elements, elements_of, read_body, value_of}
 use Rattle.frame.specs.Elements.{Elements, Trailing, Followed}
 use Rattle.frame.proofs.Elements.{whole-end, whole-elements, elements-are}
@@ -67,20 +68,20 @@ starts_with s e n l w =
 -- ---- read, or not, by what follows
 
 module _ (s : List ℕ) (n : ℕ) (w : Starts s n) (gs : List ℕ) where
-  reads : length s ≤ 2304 → whole_elements (elements_of s) ≡ true → read_body gs s ≡ Confirm n
+  reads : length s ≤ 2304 → whole_elements (elements_of s) ≡ true → read_body gs s ≡ Some (Confirm n)
   unfolding elements_of
   reads h e =
       sym (body-confirm gs s 3 (omega (arith, w.total)) h (sym w.algorithm) 2 (sym w.sequence) refl _ refl
       (confirm-read s 0 (sym w.status) refl w.total 8 true refl (sym e) n refl (sym w.counter)))
 
-  too_long : 2304 < length s → read_body gs s ≡ Malformed
+  too_long : 2304 < length s → read_body gs s ≡ None
   too_long h = sym (body-long gs s (omega arith) h)
 
-  cut_off : whole_elements (elements_of s) ≡ false → read_body gs s ≡ Malformed
+  cut_off : whole_elements (elements_of s) ≡ false → read_body gs s ≡ None
   unfolding elements_of
   cut_off e = go (ltb 2304 (length s)) refl
     where
-      go : (b : Bool) → ltb 2304 (length s) ≡ b → read_body gs s ≡ Malformed
+      go : (b : Bool) → ltb 2304 (length s) ≡ b → read_body gs s ≡ None
       go true p = too_long (ltb-true _ _ p)
       go false p =
           sym (body-confirm gs s 3 (omega (arith, w.total)) (ltb-false _ _ p) (sym w.algorithm) 2 (sym w.sequence) refl _ refl
@@ -88,7 +89,7 @@ module _ (s : List ℕ) (n : ℕ) (w : Starts s n) (gs : List ℕ) where
 
 -- ---- the promises
 
-pub trailing : (gs s : List ℕ) (n : ℕ) → read_body gs s ≡ Confirm n → Trailing s n
+pub trailing : (gs s : List ℕ) (n : ℕ) → read_body gs s ≡ Some (Confirm n) → Trailing s n
 unfolding elements_of value_of
 trailing gs s n e =
     let w = confirm-shape gs s n e in
@@ -102,7 +103,7 @@ trailing gs s n e =
       longest = w.head.longest;
     }
 
-pub followed : (gs s e : List ℕ) (n : ℕ) → read_body gs s ≡ Confirm n → length s ≡ 40 → Followed s e n
+pub followed : (gs s e : List ℕ) (n : ℕ) → read_body gs s ≡ Some (Confirm n) → length s ≡ 40 → Followed s e n
 unfolding elements_of
 followed gs s e n r l =
     let w = starts_with s e n l (starts s n (confirm-shape gs s n r)) in

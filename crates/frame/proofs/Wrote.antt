@@ -10,15 +10,15 @@ use lib.ListN.{length, take, drop}
 use lib.Seq.{take_at, drop_at}
 use borrow.Author.Tests.{ltb-true, ltb-false, eqb-true, eqb-false, le-ltb}
 use Rattle.octets.specs.Octets.{part, put, oct, Bytes}
-use Rattle.std.specs.Prelude.{if◌then◌else◌}
+use Rattle.std.specs.Prelude.{if◌then◌else◌, Result, Ok, Err}
 use Rattle.octets.proofs.Laws.{length-put, bytes-append, bytes-oct}
 use Rattle.groups.specs.Groups.{commit_length, listed}
-use Rattle.frame.specs.declared.Written.{Written}
-use Rattle.frame.specs.declared.Written.TheVariants.{Length, Shape, Short}
 use Rattle.frame.specs.Frame.{read_body, head, body, commit_body, token_request_body, group_refusal_body, confirm_body}
 use Rattle.frame.specs.Writing.{Drawn, Octets, Outside, draw_commit, draw_token_request, draw_group_refusal, draw_confirm, draw_commits, draw_confirms, parts_body, parts_read, written, leaves, refusal, Writes}
 use Rattle.frame.proofs.Shapes.{if-then, if-else}
 use Rattle.frame.proofs.RoundTrip.{body-token, body-rest, commit-reads, token-request-reads, group-refusal-reads, confirm-reads}
+use Rattle.causes.specs.declared.Refusal.TheVariants as why
+use Rattle.causes.specs.declared.Refusal.{Refusal}
 
 -- ---- the buffer
 
@@ -37,15 +37,15 @@ second : (s given : List ℕ) → drop (length s) (put given 0 s) ≡ drop (leng
 unfolding put
 second s given = drop_at s (drop (0 + length s) given) (length s) refl ∙ rw zero-add refl
 
-pub wrote : (d : Drawn) (given left : List ℕ) (n : ℕ) → Writes d given left (Length n) → Wrote d given left n
+pub wrote : (d : Drawn) (given left : List ℕ) (n : ℕ) → Writes d given left (Ok n) → Wrote d given left n
 unfolding written leaves
 wrote Outside given left n w = let z : ◌≡◌ {A = ℕ} 0 1 = clash w.answers in absurd (omega arith)
   where
-    clash : Length n ≡ Shape → ◌≡◌ {A = ℕ} 0 1
+    clash : Ok n ≡ (Err why.Body) → ◌≡◌ {A = ℕ} 0 1
     clash e = cc
 wrote (Octets s) given left n w = go (ltb (length given) (length s)) refl w.answers w.left_as
   where
-    go : (b : Bool) → ltb (length given) (length s) ≡ b → Length n ≡ (if b then Short else Length (length s)) → left ≡ (if b then given else put given 0 s) → Wrote (Octets s) given left n
+    go : (b : Bool) → ltb (length given) (length s) ≡ b → Ok n ≡ (if b then (Err why.Short) else Ok (length s)) → left ≡ (if b then given else put given 0 s) → Wrote (Octets s) given left n
     go true p e l = let z : ◌≡◌ {A = ℕ} 0 1 = cc in absurd (omega arith)
     go false p e l =
         let k : n ≡ length s = cc in
@@ -58,12 +58,12 @@ wrote (Octets s) given left n w = go (ltb (length given) (length s)) refl w.answ
         }
 
 -- a refusal leaves every octet
-pub refused-leaves : (d : Drawn) (given left : List ℕ) (r : Written) → Writes d given left r → (refusal r ≡ 0 → ⊥) → left ≡ given
+pub refused-leaves : (d : Drawn) (given left : List ℕ) (r : Result ℕ Refusal) → Writes d given left r → (refusal r ≡ 0 → ⊥) → left ≡ given
 unfolding written leaves
 refused-leaves Outside given left r w h = w.left_as
 refused-leaves (Octets s) given left r w h = go (ltb (length given) (length s)) w.answers w.left_as
   where
-    go : (b : Bool) → r ≡ (if b then Short else Length (length s)) → left ≡ (if b then given else put given 0 s) → left ≡ given
+    go : (b : Bool) → r ≡ (if b then (Err why.Short) else Ok (length s)) → left ≡ (if b then given else put given 0 s) → left ≡ given
     go true e l = l
     go false e l = absurd (h (ap refusal e))
 
@@ -73,7 +73,7 @@ unfolding written
 refused-shape Outside given e = refl
 refused-shape (Octets s) given e = absurd (go (ltb (length given) (length s)) e)
   where
-    go : (b : Bool) → refusal (if b then Short else Length (length s)) ≡ 7 → ⊥
+    go : (b : Bool) → refusal (if b then (Err why.Short) else Ok (length s)) ≡ 7 → ⊥
     go true e = omega arith
     go false e = omega arith
 
@@ -81,12 +81,12 @@ pub refused-short : (s given : List ℕ) → refusal (written (Octets s) given) 
 unfolding written
 refused-short s given e = go (ltb (length given) (length s)) refl e
   where
-    go : (b : Bool) → ltb (length given) (length s) ≡ b → refusal (if b then Short else Length (length s)) ≡ 11 → length given < length s
+    go : (b : Bool) → ltb (length given) (length s) ≡ b → refusal (if b then (Err why.Short) else Ok (length s)) ≡ 11 → length given < length s
     go true p e = ltb-true _ _ p
     go false p e = absurd (omega arith)
 
 -- a buffer that is long enough takes the frame
-pub room-enough : (s given : List ℕ) → length s ≤ length given → written (Octets s) given ≡ Length (length s)
+pub room-enough : (s given : List ℕ) → length s ≤ length given → written (Octets s) given ≡ Ok (length s)
 unfolding written
 room-enough s given h = rw (le-ltb (length given) (length s) h)
 

@@ -1,11 +1,11 @@
 -- 'Frame bodies': the shapes of Authentication frame bodies, as a reader takes them apart and as a writer makes them.
-use Rattle.std.specs.Prelude.{Bool, true, false, List, [], ◌∷◌, ◌++◌, ℕ, zero, suc, ◌+◌, ◌-◌, eqb, ltb, length, drop, if◌then◌else◌}
+use Rattle.std.specs.Prelude.{Bool, true, false, List, [], ◌∷◌, ◌++◌, ℕ, zero, suc, ◌+◌, ◌-◌, eqb, ltb, length, drop, if◌then◌else◌, Option, Some, None}
 use Rattle.octets.specs.Octets.{part, num, oct}
 use Rattle.groups.specs.Groups.{scalar_length, element_length, commit_length, listed}
 use Rattle.frame.specs.declared.Field.{Field}
 use Rattle.frame.specs.declared.Head.{Head}
 use Rattle.frame.specs.declared.Body.{Body}
-use Rattle.frame.specs.declared.Body.TheVariants.{Commit, Unsupported, TokenRequest, GroupRefusal, OtherCommit, Confirm, OtherConfirm, Malformed}
+use Rattle.frame.specs.declared.Body.TheVariants.{Commit, Unsupported, TokenRequest, GroupRefusal, OtherCommit, Confirm, OtherConfirm}
 
 -- a field of two octets
 abbrev pub field : List ℕ → ℕ → ℕ
@@ -36,37 +36,37 @@ abbrev pub counter_of : List ℕ → ℕ
 counter_of s = field s 6
 
 -- "Commit, status 0: group (2), token (0 to 256 octets), scalar, element. The token is what the length leaves over." In a listed group.
-unfoldable pub read_listed : ℕ → List ℕ → Body
+unfoldable pub read_listed : ℕ → List ℕ → Option Body
 read_listed group s =
-    if ltb (length s) (8 + commit_length group) then Malformed
-    else if ltb 256 (length s - (8 + commit_length group)) then Malformed
-    else Commit group (length s - (8 + commit_length group))
+    if ltb (length s) (8 + commit_length group) then None
+    else if ltb 256 (length s - (8 + commit_length group)) then None
+    else Some (Commit group (length s - (8 + commit_length group)))
 
 -- "Supported means listed in the table. A status 0 Commit in any other group needs 8 octets or more; its rest is not looked at."
-unfoldable pub read_offer : List ℕ → List ℕ → Body
+unfoldable pub read_offer : List ℕ → List ℕ → Option Body
 read_offer groups s =
-    if ltb (length s) 8 then Malformed
+    if ltb (length s) 8 then None
     else if listed groups (group_of s) then read_listed (group_of s) s
-    else Unsupported (group_of s)
+    else Some (Unsupported (group_of s))
 
 -- "Status 76: group, token of 1 to 256."
-unfoldable pub read_token_request : List ℕ → Body
+unfoldable pub read_token_request : List ℕ → Option Body
 read_token_request s =
-    if ltb (length s) 9 then Malformed
-    else if ltb 264 (length s) then Malformed
-    else TokenRequest (group_of s) (length s - 8)
+    if ltb (length s) 9 then None
+    else if ltb 264 (length s) then None
+    else Some (TokenRequest (group_of s) (length s - 8))
 
 -- "Status 77: group only, total 8."
-unfoldable pub read_group_refusal : List ℕ → Body
-read_group_refusal s = if eqb (length s) 8 then GroupRefusal (group_of s) else Malformed
+unfoldable pub read_group_refusal : List ℕ → Option Body
+read_group_refusal s = if eqb (length s) 8 then Some (GroupRefusal (group_of s)) else None
 
 -- Commit. "Any other status: the rest is not looked at."
-unfoldable pub read_commit : List ℕ → List ℕ → Body
+unfoldable pub read_commit : List ℕ → List ℕ → Option Body
 read_commit groups s =
     if eqb (status_of s) 0 then read_offer groups s
     else if eqb (status_of s) 76 then read_token_request s
     else if eqb (status_of s) 77 then read_group_refusal s
-    else OtherCommit (status_of s)
+    else Some (OtherCommit (status_of s))
 
 -- What may follow a Confirm's 40 octets: "identifier octet, length octet, contents, repeated to the end". Here n octets of contents come first; a part that
 -- ends within them, or behind an identifier, is cut.
@@ -87,24 +87,24 @@ elements_of s = drop 40 s
 
 -- "Confirm, status 0: counter (2), value (32), total 40." "The reading of such a Confirm now takes 40 octets and any run of whole elements. A cut element is
 -- refused as 7." "A Confirm with nonzero status: the rest is not looked at."
-unfoldable pub read_confirm : List ℕ → Body
+unfoldable pub read_confirm : List ℕ → Option Body
 read_confirm s =
     if eqb (status_of s) 0 then
-    (if ltb (length s) 40 then Malformed
-    else if whole_elements (elements_of s) then Confirm (counter_of s)
-    else Malformed)
-    else OtherConfirm (status_of s)
+    (if ltb (length s) 40 then None
+    else if whole_elements (elements_of s) then Some (Confirm (counter_of s))
+    else None)
+    else Some (OtherConfirm (status_of s))
 
 -- "A body is 6 to 2,304 octets", a Confirm with elements too: "2,304 octets in all at most". Anything not of these shapes is malformed.
-unfoldable pub read_body : List ℕ → List ℕ → Body
+unfoldable pub read_body : List ℕ → List ℕ → Option Body
 read_body groups s =
-    if ltb (length s) 6 then Malformed
-    else if ltb 2304 (length s) then Malformed
+    if ltb (length s) 6 then None
+    else if ltb 2304 (length s) then None
     else if eqb (algorithm_of s) 3 then
     (if eqb (sequence_of s) 1 then read_commit groups s
     else if eqb (sequence_of s) 2 then read_confirm s
-    else Malformed)
-    else Malformed
+    else None)
+    else None
 
 -- ---- the parts of a body that was read
 
@@ -128,15 +128,15 @@ unfoldable pub value_of : List ℕ → List ℕ
 value_of s = part s 8 32
 
 -- a status 0 Commit, in a listed group or in any other
-abbrev pub is_offer : Body → Bool
-is_offer (Commit g t) = true
-is_offer (Unsupported g) = true
-is_offer (TokenRequest g t) = false
-is_offer (GroupRefusal g) = false
-is_offer (OtherCommit s) = false
-is_offer (Confirm n) = false
-is_offer (OtherConfirm s) = false
-is_offer Malformed = false
+abbrev pub is_offer : Option Body → Bool
+is_offer (Some (Commit g t)) = true
+is_offer (Some (Unsupported g)) = true
+is_offer (Some (TokenRequest g t)) = false
+is_offer (Some (GroupRefusal g)) = false
+is_offer (Some (OtherCommit s)) = false
+is_offer (Some (Confirm n)) = false
+is_offer (Some (OtherConfirm s)) = false
+is_offer None = false
 
 -- ---- the octets of a body
 

@@ -1,12 +1,13 @@
 -- The writer: which octets a frame's parts make, what is answered, and what the lent buffer holds then.
-use Rattle.std.specs.Prelude.{List, ◌≡◌, ℕ, eqb, ltb, length, if◌then◌else◌}
+use Rattle.std.specs.Prelude.{List, ◌≡◌, ℕ, eqb, ltb, length, if◌then◌else◌, Option, Some, Result, Ok, Err}
 use Rattle.octets.specs.Octets.{put}
 use Rattle.groups.specs.Groups.{commit_length, listed}
 use Rattle.frame.specs.Frame.{commit_body, token_request_body, group_refusal_body, confirm_body}
 use Rattle.frame.specs.declared.Body.{Body}
 use Rattle.frame.specs.declared.Body.TheVariants.{Commit, TokenRequest, GroupRefusal, Confirm}
-use Rattle.frame.specs.declared.Written.{Written}
-use Rattle.frame.specs.declared.Written.TheVariants.{Length, Shape, Short}
+use Rattle.causes.specs.declared.Refusal.TheVariants as why
+use Rattle.causes.specs.Causes.{number}
+use Rattle.causes.specs.declared.Refusal.{Refusal}
 
 -- a frame's octets, or parts outside the shapes
 pub data Drawn : Type 0 where
@@ -61,20 +62,20 @@ parts_body groups sequence status group counter token rest =
     else Outside
 
 -- what parts in one of the shapes are to a reader whose list has the group
-unfoldable pub parts_read : ℕ → ℕ → ℕ → ℕ → ℕ → Body
+unfoldable pub parts_read : ℕ → ℕ → ℕ → ℕ → ℕ → Option Body
 parts_read sequence status group counter token =
     if eqb sequence 1 then
-    (if eqb status 0 then Commit group token
-    else if eqb status 76 then TokenRequest group token
-    else GroupRefusal group)
-    else Confirm counter
+    (if eqb status 0 then Some (Commit group token)
+    else if eqb status 76 then Some (TokenRequest group token)
+    else Some (GroupRefusal group))
+    else Some (Confirm counter)
 
 -- ---- the outcome
 
 -- "answers the length written", or that the parts are outside the shapes, or that the frame is longer than the buffer
-unfoldable pub written : Drawn → List ℕ → Written
-written Outside out = Shape
-written (Octets s) out = if ltb (length out) (length s) then Short else Length (length s)
+unfoldable pub written : Drawn → List ℕ → Result ℕ Refusal
+written Outside out = Err why.Body
+written (Octets s) out = if ltb (length out) (length s) then Err why.Short else Ok (length s)
 
 -- "leaves octets past the frame untouched"; a refusal leaves the buffer as it was
 unfoldable pub leaves : Drawn → List ℕ → List ℕ
@@ -82,18 +83,16 @@ leaves Outside out = out
 leaves (Octets s) out = if ltb (length out) (length s) then out else put out 0 s
 
 -- the number of the refusal, 0 if there is none: "Body not of the shapes above 7", "Frame to write longer than the buffer 11"
-abbrev pub refusal : Written → ℕ
-refusal (Length n) = 0
-refusal Shape = 7
-refusal Short = 11
+abbrev pub refusal : Result ℕ Refusal → ℕ
+refusal (Ok n) = 0
+refusal (Err c) = number c
 
 -- the length written, 0 if nothing was
-abbrev pub length_of : Written → ℕ
-length_of (Length n) = n
-length_of Shape = 0
-length_of Short = 0
+abbrev pub length_of : Result ℕ Refusal → ℕ
+length_of (Ok n) = n
+length_of (Err c) = 0
 
 -- a writer's whole outcome: its answer and what it leaves of the buffer that it was given
-pub record Writes (d : Drawn) (given left : List ℕ) (answer : Written) : Type 0 where
+pub record Writes (d : Drawn) (given left : List ℕ) (answer : Result ℕ Refusal) : Type 0 where
   pub answers : answer ≡ written d given
   pub left_as : left ≡ leaves d given

@@ -6,6 +6,8 @@ ghost use Rattle.octets.specs.Octets.{part, put, num};
 ghost use Rattle.frame.specs.Frame.{read_body, read_commit, read_offer, read_listed, read_token_request, read_group_refusal, read_confirm, whole_elements, elements_of, token_of, commit_of, body, head, field_at, head_of};
 ghost use Rattle.frame.specs.Writing.{Writes, Octets, draw_commit, draw_token_request, draw_group_refusal, draw_confirm, draw_commits, draw_confirms, parts_body};
 
+use causes::Refusal;
+
 // The algorithm, the sequences and the statuses that bodies carry.
 const SAE: u16 = 3;
 
@@ -34,7 +36,7 @@ const CONFIRM: usize = 40;
 
 const ELEMENT: usize = 2;
 
-// What a body is, with the numbers in it and the length of its token.
+// What a body of one of the shapes is, with the numbers in it and the length of its token.
 #[derive(Clone, Copy)]
 pub enum Body {
     // Status 0 in a listed group: the token stands at 8, scalar and element after it.
@@ -51,16 +53,6 @@ pub enum Body {
     Confirm { counter: u16 },
     // Confirm of nonzero status.
     OtherConfirm { status: u16 },
-    // Not of these shapes.
-    Malformed,
-}
-
-// What a writer answers: the length written; refusal 7, outside the shapes; refusal 11, longer than the buffer.
-#[derive(Clone, Copy)]
-pub enum Written {
-    Length(usize),
-    Shape,
-    Short,
 }
 
 // "A frame reader carries the received octets and the offset reached."
@@ -166,71 +158,71 @@ fn head_of(frame: &[u8]) -> Head
 }
 
 // "The token is what the length leaves over", 0 to 256 octets; it begins at the offset reached behind the group.
-fn read_listed(group: u16, frame: &[u8], at: usize) -> Body
+fn read_listed(group: u16, frame: &[u8], at: usize) -> Option<Body>
     requires { at ≡ 8 }
     ensures { result ≡ read_listed group frame.now }
 {
     let least = at + groups::commit_length(group);
     let n = frame.len();
     if n < least {
-        return Body::Malformed;
+        return None;
     }
     let token = n - least;
     if TOKEN < token {
-        return Body::Malformed;
+        return None;
     }
-    Body::Commit { group, token }
+    Some(Body::Commit { group, token })
 }
 
 // "Supported means listed in the table"; a status 0 Commit in any other group needs 8 octets or more. The group stands at the offset reached.
-fn read_offer(groups: &[u16], frame: &[u8], at: usize) -> Body
+fn read_offer(groups: &[u16], frame: &[u8], at: usize) -> Option<Body>
     requires { at ≡ 6 }
     ensures { result ≡ read_offer groups.now frame.now }
 {
     if frame.len() < HEAD {
-        return Body::Malformed;
+        return None;
     }
     let f = field_at(frame, at);
     let group = f.number;
     if groups::is_listed(groups, group) {
         return read_listed(group, frame, f.reached);
     }
-    Body::Unsupported { group }
+    Some(Body::Unsupported { group })
 }
 
 // "Status 76: group, token of 1 to 256." The group stands at the offset reached, the token behind it.
-fn read_token_request(frame: &[u8], at: usize) -> Body
+fn read_token_request(frame: &[u8], at: usize) -> Option<Body>
     requires { at ≡ 6 }
     ensures { result ≡ read_token_request frame.now }
 {
     let n = frame.len();
     if n < HEAD + 1 {
-        return Body::Malformed;
+        return None;
     }
     if HEAD + TOKEN < n {
-        return Body::Malformed;
+        return None;
     }
     let f = field_at(frame, at);
     let group = f.number;
     let token = n - f.reached;
-    Body::TokenRequest { group, token }
+    Some(Body::TokenRequest { group, token })
 }
 
 // "Status 77: group only, total 8." The group stands at the offset reached.
-fn read_group_refusal(frame: &[u8], at: usize) -> Body
+fn read_group_refusal(frame: &[u8], at: usize) -> Option<Body>
     requires { at ≡ 6 }
     ensures { result ≡ read_group_refusal frame.now }
 {
     if frame.len() != HEAD {
-        return Body::Malformed;
+        return None;
     }
     let f = field_at(frame, at);
     let group = f.number;
-    Body::GroupRefusal { group }
+    Some(Body::GroupRefusal { group })
 }
 
 // A Commit by its status, from the offset reached behind it; of any other status the rest is not looked at.
-fn read_commit(groups: &[u16], frame: &[u8], head: Head) -> Body
+fn read_commit(groups: &[u16], frame: &[u8], head: Head) -> Option<Body>
     requires { head ≡ head_of frame.now }
     ensures { result ≡ read_commit groups.now frame.now }
 {
@@ -245,7 +237,7 @@ fn read_commit(groups: &[u16], frame: &[u8], head: Head) -> Body
     if status == GROUP_REFUSED {
         return read_group_refusal(frame, at);
     }
-    Body::OtherCommit { status }
+    Some(Body::OtherCommit { status })
 }
 
 // From the offset reached to the frame's end stand whole elements and nothing else: identifier, length, contents, one element a step.
@@ -269,41 +261,41 @@ fn is_whole(frame: &[u8], at: usize) -> bool
 }
 
 // "Confirm, status 0: counter (2), value (32), total 40", then whole elements; of nonzero status the rest is not looked at.
-fn read_confirm(frame: &[u8], head: Head) -> Body
+fn read_confirm(frame: &[u8], head: Head) -> Option<Body>
     requires { head ≡ head_of frame.now }
     ensures { result ≡ read_confirm frame.now }
 {
     let status = head.status;
     if status != SUCCESS {
-        return Body::OtherConfirm { status };
+        return Some(Body::OtherConfirm { status });
     }
     if frame.len() < CONFIRM {
-        return Body::Malformed;
+        return None;
     }
     let f = field_at(frame, head.reached);
     let counter = f.number;
     let whole = is_whole(frame, f.reached + VALUE);
     if !whole {
-        return Body::Malformed;
+        return None;
     }
-    Body::Confirm { counter }
+    Some(Body::Confirm { counter })
 }
 
 // The reader: a body by its length, algorithm and sequence.
-pub fn read(groups: &[u16], frame: &[u8]) -> Body
+pub fn read(groups: &[u16], frame: &[u8]) -> Option<Body>
     ensures { result ≡ read_body groups.now frame.now }
 {
     if frame.len() < SHORTEST {
-        return Body::Malformed;
+        return None;
     }
     if LONGEST < frame.len() {
-        return Body::Malformed;
+        return None;
     }
     let head = head_of(frame);
     let algorithm = head.algorithm;
     let sequence = head.sequence;
     if algorithm != SAE {
-        return Body::Malformed;
+        return None;
     }
     if sequence == COMMITS {
         return read_commit(groups, frame, head);
@@ -311,7 +303,7 @@ pub fn read(groups: &[u16], frame: &[u8]) -> Body
     if sequence == CONFIRMS {
         return read_confirm(frame, head);
     }
-    Body::Malformed
+    None
 }
 
 // "The token is handed back as a part of the received frame": the caller's own octets, as many of the n from 8 as there are.
@@ -377,24 +369,24 @@ fn write_body(
     token: &[u8],
     rest: &[u8],
     out: &mut [u8],
-) -> Written
+) -> Result<usize, Refusal>
     ensures { Writes (Octets (body sequence status third token.now rest.now)) out.old out.new result }
 {
     let all = out.len();
     if all < HEAD {
-        return Written::Short;
+        return Err(Refusal::Short);
     }
     if all - HEAD < token.len() {
-        return Written::Short;
+        return Err(Refusal::Short);
     }
     let at = HEAD + token.len();
     if all - at < rest.len() {
-        return Written::Short;
+        return Err(Refusal::Short);
     }
     put_head(sequence, status, third, out);
     octets::copy_in(out, HEAD, token);
     octets::copy_in(out, at, rest);
-    Written::Length(at + rest.len())
+    Ok(at + rest.len())
 }
 
 // A status 0 Commit in a listed group; commit is scalar then element.
@@ -404,49 +396,49 @@ pub fn write_commit(
     token: &[u8],
     commit: &[u8],
     out: &mut [u8],
-) -> Written
+) -> Result<usize, Refusal>
     ensures { Writes (draw_commit groups.now group token.now commit.now) out.old out.new result }
 {
     let listed = groups::is_listed(groups, group);
     if !listed {
-        return Written::Shape;
+        return Err(Refusal::Body);
     }
     if TOKEN < token.len() {
-        return Written::Shape;
+        return Err(Refusal::Body);
     }
     let n = groups::commit_length(group);
     if commit.len() != n {
-        return Written::Shape;
+        return Err(Refusal::Body);
     }
     write_body(COMMITS, SUCCESS, group, token, commit, out)
 }
 
 // A 76: the group and the token that is asked for.
-pub fn write_token_request(group: u16, token: &[u8], out: &mut [u8]) -> Written
+pub fn write_token_request(group: u16, token: &[u8], out: &mut [u8]) -> Result<usize, Refusal>
     ensures { Writes (draw_token_request group token.now) out.old out.new result }
 {
     if token.len() == 0 {
-        return Written::Shape;
+        return Err(Refusal::Body);
     }
     if TOKEN < token.len() {
-        return Written::Shape;
+        return Err(Refusal::Body);
     }
     write_body(COMMITS, TOKEN_REQUIRED, group, token, b"", out)
 }
 
 // A 77: the group that is refused.
-pub fn write_group_refusal(group: u16, out: &mut [u8]) -> Written
+pub fn write_group_refusal(group: u16, out: &mut [u8]) -> Result<usize, Refusal>
     ensures { Writes (draw_group_refusal group) out.old out.new result }
 {
     write_body(COMMITS, GROUP_REFUSED, group, b"", b"", out)
 }
 
 // A status 0 Confirm: the counter and the value.
-pub fn write_confirm(counter: u16, value: &[u8], out: &mut [u8]) -> Written
+pub fn write_confirm(counter: u16, value: &[u8], out: &mut [u8]) -> Result<usize, Refusal>
     ensures { Writes (draw_confirm counter value.now) out.old out.new result }
 {
     if value.len() != VALUE {
-        return Written::Shape;
+        return Err(Refusal::Body);
     }
     write_body(CONFIRMS, SUCCESS, counter, b"", value, out)
 }
@@ -459,7 +451,7 @@ fn write_commits(
     token: &[u8],
     rest: &[u8],
     out: &mut [u8],
-) -> Written
+) -> Result<usize, Refusal>
     ensures { Writes (draw_commits groups.now status group token.now rest.now) out.old out.new result }
 {
     if status == SUCCESS {
@@ -467,18 +459,18 @@ fn write_commits(
     }
     if status == TOKEN_REQUIRED {
         if rest.len() != 0 {
-            return Written::Shape;
+            return Err(Refusal::Body);
         }
         return write_token_request(group, token, out);
     }
     if status != GROUP_REFUSED {
-        return Written::Shape;
+        return Err(Refusal::Body);
     }
     if token.len() != 0 {
-        return Written::Shape;
+        return Err(Refusal::Body);
     }
     if rest.len() != 0 {
-        return Written::Shape;
+        return Err(Refusal::Body);
     }
     write_group_refusal(group, out)
 }
@@ -491,17 +483,17 @@ fn write_confirms(
     token: &[u8],
     rest: &[u8],
     out: &mut [u8],
-) -> Written
+) -> Result<usize, Refusal>
     ensures { Writes (draw_confirms status group counter token.now rest.now) out.old out.new result }
 {
     if status != SUCCESS {
-        return Written::Shape;
+        return Err(Refusal::Body);
     }
     if group != 0 {
-        return Written::Shape;
+        return Err(Refusal::Body);
     }
     if token.len() != 0 {
-        return Written::Shape;
+        return Err(Refusal::Body);
     }
     write_confirm(counter, rest, out)
 }
@@ -516,17 +508,17 @@ pub fn write_parts(
     token: &[u8],
     rest: &[u8],
     out: &mut [u8],
-) -> Written
+) -> Result<usize, Refusal>
     ensures { Writes (parts_body groups.now sequence status group counter token.now rest.now) out.old out.new result }
 {
     if sequence == COMMITS {
         if counter != 0 {
-            return Written::Shape;
+            return Err(Refusal::Body);
         }
         return write_commits(groups, status, group, token, rest, out);
     }
     if sequence == CONFIRMS {
         return write_confirms(status, group, counter, token, rest, out);
     }
-    Written::Shape
+    Err(Refusal::Body)
 }

@@ -1,4 +1,5 @@
 -- How many good links: what a fill leaves; and a sound table starts with 32 octets exactly where they are possible.
+use Rattle.std.specs.Prelude.{Ok, Err}
 use mathlib.Core.Path.{◌≡◌, refl, sym, ap, ◌∙◌}
 use mathlib.Core.Logic.{◌⊎◌, inl, inr}
 use mathlib.Core.Bool.{Bool, true, false, not, ◌&&◌}
@@ -10,6 +11,8 @@ use lib.ListN.{length, take, drop, length-append, length-drop, take-append-drop}
 use lib.Seq.{take_at, drop_at}
 use native.Mathlib.Decide.{dec_lt}
 use borrow.Author.Tests.{eqb-true, leb-true, eq-eqb, le-leb, lt-leb, not-true, not-false}
+use Rattle.causes.specs.declared.Refusal.TheVariants as why
+use Rattle.causes.specs.Causes.{passes}
 use Rattle.octets.specs.Octets.{Bytes, num, oct, part, put}
 use Rattle.octets.specs.Scan.{count_below}
 use Rattle.octets.proofs.Laws.{length-put, length-oct, oct-part, put-part}
@@ -148,12 +151,12 @@ countable-by t h w n l e ew en =
     ∙ sym (rw (le-leb 32 (length t) l))
 
 -- what `fill_good` shows: where nothing can be counted
-pub fill-uncounted : (t : List ℕ) (r : Bool) → Bytes t → r ≡ countable t → not r ≡ true → (false ≡ sound (filled t)) × (t ≡ fills t)
+pub fill-uncounted : (t : List ℕ) (r : Bool) → Bytes t → r ≡ countable t → not r ≡ true → (Err why.Unsound ≡ passes (sound (filled t)) why.Unsound) × (t ≡ fills t)
 fill-uncounted t r b e q = go (cases (sound (filled t)))
   where
-    go : (sound (filled t) ≡ true) ⊎ (sound (filled t) ≡ false) → (false ≡ sound (filled t)) × (t ≡ fills t)
+    go : (sound (filled t) ≡ true) ⊎ (sound (filled t) ≡ false) → (Err why.Unsound ≡ passes (sound (filled t)) why.Unsound) × (t ≡ fills t)
     go (inl s) = absurd (clash (e ∙ sound-countable t b s) (not-true r q))
-    go (inr s) = (sym s, unfilled t (sym s))
+    go (inr s) = (rw s refl, unfilled t (sym s))
 
 -- and where it can
 module _ (t : List ℕ) (r : Bool) (e : r ≡ countable t) (q : not r ≡ false) where
@@ -198,16 +201,16 @@ module _ (t : List ℕ) (r : Bool) (e : r ≡ countable t) (q : not r ≡ false)
       ∙ good-twice t b l (good_count (decode_table t)) (num (part t 12 2)) (good-small t b l) (fit-header t b l).shape.counts.good
       ∙ ap (put t 12) (oct-part t 12 2 b (omega (arith, l))) ∙ put-part t 12 2 (omega (arith, l))
 
-  pub fill-kept : (u : List ℕ) (b : Bool) → u ≡ filled t → b ≡ sound u → not b ≡ false → (b ≡ sound (filled t)) × (u ≡ fills t)
+  pub fill-kept : (u : List ℕ) (b : Bool) → u ≡ filled t → b ≡ sound u → not b ≡ false → (Ok tt ≡ passes (sound (filled t)) why.Unsound) × (u ≡ fills t)
   fill-kept u b eu eb z =
       let s : true ≡ sound (filled t) = sym (not-false b z) ∙ eb ∙ ap sound eu in
-      (eb ∙ ap sound eu, eu ∙ kept t s)
+      (rw (← s) refl, eu ∙ kept t s)
 
   pub fill-put-back : (u v : List ℕ) (h : Header) (b : Bool) → Bytes t → h ≡ (decode_table t).header → u ≡ filled t → v ≡ put u 12 (oct 2 h.counts.good) → b ≡ sound u → not b ≡ true
-      → (b ≡ sound (filled t)) × (v ≡ fills t)
+      → (Err why.Unsound ≡ passes (sound (filled t)) why.Unsound) × (v ≡ fills t)
   fill-put-back u v h b bt eh eu ev eb z =
       let s : false ≡ sound (filled t) = sym (not-true b z) ∙ eb ∙ ap sound eu in
-      (eb ∙ ap sound eu, fill-undone u v h bt eh eu ev ∙ unfilled t s)
+      (rw (← s) refl, fill-undone u v h bt eh eu ev ∙ unfilled t s)
 
 -- ---- promises of a fill
 

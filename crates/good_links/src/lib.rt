@@ -2,9 +2,12 @@
 #![tactic(auto)]
 
 ghost use Rattle.std.specs.Prelude.{◌≡◌};
+ghost use Rattle.causes.specs.declared.Refusal.TheVariants as why;
+ghost use Rattle.causes.specs.Causes.{passes};
 ghost use Rattle.table.specs.Table.{sound};
 ghost use Rattle.good_links.specs.GoodLinks.{header_possible, countable, filled, fills};
 
+use causes::Refusal;
 use record::{HEADER, Header};
 
 // Whether some sound table has this header: its fields, and what the counts of so many slots can be. `header_ok` is not called: with a second caller the
@@ -34,21 +37,21 @@ fn is_countable(t: &[u8]) -> bool
     (n <= 64) & (t.len() == record::record_at(w, n))
 }
 
-// The true count of good links goes into the header of a table otherwise sound, or, false, cause 2 holds and every octet stays. The count that is there is
-// not looked at; it is put back where the table is not sound with the true one.
-pub fn fill_good(t: &mut [u8]) -> bool
-    ensures { (result ≡ sound (filled t.old)) × (t.new ≡ fills t.old) }
+// The true count of good links goes into the header of a table otherwise sound, or cause 2 holds and every octet stays. The count that is there is not looked
+// at; it is put back where the table is not sound with the true one.
+pub fn fill_good(t: &mut [u8]) -> Result<(), Refusal>
+    ensures { (result ≡ passes (sound (filled t.old)) why.Unsound) × (t.new ≡ fills t.old) }
 {
     if !is_countable(t) {
-        return false;
+        return Err(Refusal::Unsound);
     }
     let h = table::header_of(t);
     let w = record::width_of(h);
     let counts = table::counts_below(t, w, h.geometry.slots as usize);
     record::set_good(t, counts.good);
-    let filled = table::is_sound(t);
-    if !filled {
+    if !table::is_sound(t) {
         record::set_good(t, h.counts.good);
+        return Err(Refusal::Unsound);
     }
-    filled
+    Ok(())
 }

@@ -11,9 +11,11 @@ use lib.ListN.{length, take, drop, get_or, replicate, length-replicate, length-d
 use lib.Seq.{length-take-le, drop_at}
 use borrow.Rule.Slice.PartMut.{put_mid}
 use borrow.Author.Tests.{eqb-true, leb-true, eq-eqb, ne_eqb, not-true, not-false}
+use Rattle.causes.specs.declared.Refusal.TheVariants as why
+use Rattle.causes.specs.Causes.{passes}
 use Rattle.octets.specs.Octets.{Bytes, put}
 use Rattle.octets.proofs.Laws.{mid-put}
-use Rattle.std.specs.Prelude.{if◌then◌else◌}
+use Rattle.std.specs.Prelude.{if◌then◌else◌, Ok, Err}
 use Rattle.octets.specs.Scan.{count_below}
 use Rattle.octets.proofs.Scan.{clash, and_left, and_right}
 use Rattle.record.specs.declared.Form.{Form as Kind}
@@ -231,8 +233,8 @@ fill-law t y z h l e ey ez =
     let n : length (take 32 t) ≡ 0 + length z = length-take-le 32 t l ∙ sym (ap length ez ∙ e) ∙ omega arith in
     mid-put 0 32 _ z (ap length ez ∙ e) ∙ ap (λ (x : List ℕ). put x 0 z) m ∙ rw (drop_at (take 32 t) y (0 + length z) n, ey, a, ez) refl
 
-pub refused-law : (s : Settings) (own t : List ℕ) (b : Bool) → b ≡ initial_ok made s own (length t) → not b ≡ true → (false ≡ initial_ok made s own (length t)) × (t ≡ initial made s own t)
-refused-law s own t b e q = let z : initial_ok made s own (length t) ≡ false = sym e ∙ not-true b q in (sym z, sym (initial-refused made s own t z))
+pub refused-law : (s : Settings) (own t : List ℕ) (b : Bool) → b ≡ initial_ok made s own (length t) → not b ≡ true → (Err why.Settings ≡ passes (initial_ok made s own (length t)) why.Settings) × (t ≡ initial made s own t)
+refused-law s own t b e q = let z : initial_ok made s own (length t) ≡ false = sym e ∙ not-true b q in (rw z refl, sym (initial-refused made s own t z))
 
 pub initial-by : (s : Settings) (own t : List ℕ) (b : Bool) → b ≡ initial_ok made s own (length t) → not b ≡ false → InitialForm made s own (length t)
 initial-by s own t b e q = initial-ok-form made s own (length t) (sym e ∙ not-false b q)
@@ -246,9 +248,9 @@ pub long-by : (s : Settings) (own t : List ℕ) (b : Bool) → b ≡ initial_ok 
 long-by s own t b e q = let g = initial-by s own t b e q in omega (arith, initial-long s own (length t) g)
 
 pub written-law : (s : Settings) (own t y : List ℕ) (b : Bool) (k : ℕ) (h : Header) → b ≡ initial_ok made s own (length t) → not b ≡ false → k ≡ slots_for made (length t)
-    → h ≡ initial_header made s own k → y ≡ encode_header h ++ replicate (length t - 32) 0 → (true ≡ initial_ok made s own (length t)) × (y ≡ initial made s own t)
+    → h ≡ initial_header made s own k → y ≡ encode_header h ++ replicate (length t - 32) 0 → (Ok tt ≡ passes (initial_ok made s own (length t)) why.Settings) × (y ≡ initial made s own t)
 unfolding initial
 written-law s own t y b k h e q ek eh ey =
     let ok : initial_ok made s own (length t) ≡ true = sym e ∙ not-false b q in
     let w : length t - 32 ≡ made.size * slots_for made (length t) = omega (arith, initial-long s own (length t) (initial-by s own t b e q)) in
-    (sym ok, ey ∙ rw (ok, eh, ek, w) (sym (initial-octets s own (slots_for made (length t)))))
+    (rw ok refl, ey ∙ rw (ok, eh, ek, w) (sym (initial-octets s own (slots_for made (length t)))))

@@ -2,9 +2,12 @@
 #![tactic(auto)]
 
 ghost use Rattle.std.specs.Prelude.{◌≡◌, ◌++◌, ◌-◌, ◌≤◌, length, replicate};
+ghost use Rattle.causes.specs.declared.Refusal.TheVariants as why;
+ghost use Rattle.causes.specs.Causes.{passes};
 ghost use Rattle.record.specs.Layout.{encode_header};
 ghost use Rattle.initial.specs.Initial.{made, slots_for, length_ok, initial_header, initial_ok, initial};
 
+use causes::Refusal;
 use record::{Counts, Geometry, HEADER, Header, Settings};
 
 fn slots_for(n: usize) -> usize
@@ -67,15 +70,15 @@ fn store_fresh(t: &mut [u8], h: Header)
     record::store_header(&mut t[0..HEADER], h);
 }
 
-// The initial table goes into a lent buffer, or, false, cause 1 holds and the buffer stays as it was.
-pub fn write_initial(t: &mut [u8], own: [u8; 6], s: Settings) -> bool
-    ensures { (result ≡ initial_ok made s own (length t.old)) × (t.new ≡ initial made s own t.old) }
+// The initial table goes into a lent buffer, or cause 1 holds and the buffer stays as it was.
+pub fn write_initial(t: &mut [u8], own: [u8; 6], s: Settings) -> Result<(), Refusal>
+    ensures { (result ≡ passes (initial_ok made s own (length t.old)) why.Settings) × (t.new ≡ initial made s own t.old) }
 {
     let n = t.len();
     if !initial_ok(s, own, n) {
-        return false;
+        return Err(Refusal::Settings);
     }
     let h = initial_header(s, own, slots_for(n) as u16);
     store_fresh(t, h);
-    true
+    Ok(())
 }

@@ -1,22 +1,19 @@
 -- THE LOOKUPS: what a host asks of a table that stays as it is. How long until the clock call is wanted next; where the record of an address lies; how many
 -- good links.
-use Rattle.std.specs.Prelude.{ℕ, zero, suc, ◌+◌, ◌-◌, ◌%◌, ◌^◌, Bool, List, nat_lt, if◌then◌else◌}
+use Rattle.std.specs.Prelude.{ℕ, zero, suc, ◌+◌, ◌-◌, ◌%◌, ◌^◌, Bool, List, nat_lt, if◌then◌else◌, Result, Ok, Err, Option, Some, None}
+use Rattle.causes.specs.Causes.{number}
 use Rattle.record.specs.declared.Peer.{Peer}
 use Rattle.record.specs.Layout.{decode_header, record_at}
 use Rattle.table.specs.Table.{Table, width_of, decode_table, slots, slot, sound, entry}
-use Rattle.table.specs.declared.Entry.{Entry}
-use Rattle.table.specs.declared.Entry.TheVariants.{Unsound, Unusable, Absent, At}
 use Rattle.good_links.specs.GoodLinks.{possible}
 use Rattle.rules.specs.Book.{due, has_run, has_link}
-use Rattle.answers.specs.declared.Refusal.TheVariants as why
-use Rattle.answers.specs.Answers.{number}
-use Rattle.lookups.specs.declared.Asked.{Asked}
-use Rattle.lookups.specs.declared.Asked.TheVariants as asked
+use Rattle.causes.specs.declared.Refusal.TheVariants as why
+use Rattle.causes.specs.declared.Refusal.{Refusal}
 
 -- what a lookup returns: 0, or the cause's number
-abbrev pub asked_returned : Asked → ℕ
-asked_returned (asked.Number n) = 0
-asked_returned (asked.Refused c) = number c
+abbrev pub asked_returned : Result ℕ Refusal → ℕ
+asked_returned (Ok n) = 0
+asked_returned (Err c) = number c
 
 -- ---- the next deadline
 
@@ -53,22 +50,21 @@ unfoldable pub next_deadline : Table → ℕ → ℕ
 next_deadline T time = least_below (λ k. peer_left (slot T k) time) (slots T)
 
 -- cause 2
-unfoldable pub asks_deadline : List ℕ → ℕ → Asked
-asks_deadline t time = if sound t then asked.Number (next_deadline (decode_table t) time) else asked.Refused why.Unsound
+unfoldable pub asks_deadline : List ℕ → ℕ → Result ℕ Refusal
+asks_deadline t time = if sound t then Ok (next_deadline (decode_table t) time) else Err why.Unsound
 
 -- ---- where a record lies: after the header and the slots before its own; 0 where there is none. Causes 2, 3
 
-unfoldable pub offset_by : Entry → ℕ → Asked
-offset_by Unsound W = asked.Refused why.Unsound
-offset_by Unusable W = asked.Refused why.Address
-offset_by Absent W = asked.Number 0
-offset_by (At k) W = asked.Number (record_at W k)
+unfoldable pub offset_by : Result (Option ℕ) Refusal → ℕ → Result ℕ Refusal
+offset_by (Err c) W = Err c
+offset_by (Ok None) W = Ok 0
+offset_by (Ok (Some k)) W = Ok (record_at W k)
 
-unfoldable pub asks_offset : List ℕ → List ℕ → Asked
+unfoldable pub asks_offset : List ℕ → List ℕ → Result ℕ Refusal
 asks_offset t address = offset_by (entry t address) (width_of t)
 
 -- ---- how many good links: "The panel's question reads the 32 header octets alone"
 
 -- cause 2, "exactly when it is not given 32 octets or no sound table starts with them"
-unfoldable pub asks_good : List ℕ → Asked
-asks_good header = if possible header then asked.Number (decode_header header).counts.good else asked.Refused why.Unsound
+unfoldable pub asks_good : List ℕ → Result ℕ Refusal
+asks_good header = if possible header then Ok (decode_header header).counts.good else Err why.Unsound

@@ -1,5 +1,5 @@
 -- What the rules see of a frame: one view of its body, and the message that it gives.
-use Rattle.std.specs.Prelude.{Bool, true, false, List, ◌++◌, ℕ, ◌-◌, length, replicate, if◌then◌else◌}
+use Rattle.std.specs.Prelude.{Bool, true, false, List, ◌++◌, ℕ, ◌-◌, length, replicate, if◌then◌else◌, Option, Some, None, option_map}
 use Rattle.groups.specs.Groups.{width, stored}
 use Rattle.frame.specs.Frame.{read_body, token_of, commit_of}
 use Rattle.frame.specs.declared.Body.{Body}
@@ -15,19 +15,23 @@ commit_view status group listed toklen = record { sequence = 1; status = status;
 abbrev pub confirm_view : ℕ → ℕ → ℕ → View
 confirm_view sequence status counter = record { sequence = sequence; status = status; group = 0; counter = counter; listed = false; toklen = 0 }
 
--- each shape; the sequence of a body that is of none is 0
-abbrev pub view_of : Body → View
-view_of (body.Commit g n) = commit_view 0 g true n
-view_of (body.Unsupported g) = commit_view 0 g false 0
-view_of (body.TokenRequest g n) = commit_view 76 g false n
-view_of (body.GroupRefusal g) = commit_view 77 g false 0
-view_of (body.OtherCommit s) = commit_view s 0 false 0
-view_of (body.Confirm n) = confirm_view 2 0 n
-view_of (body.OtherConfirm s) = confirm_view 2 s 0
-view_of body.Malformed = confirm_view 0 0 0
+-- each shape; the sequence of a body that is of none is 0, and a reader makes no view of it
+abbrev pub view_of : Option Body → View
+view_of (Some (body.Commit g n)) = commit_view 0 g true n
+view_of (Some (body.Unsupported g)) = commit_view 0 g false 0
+view_of (Some (body.TokenRequest g n)) = commit_view 76 g false n
+view_of (Some (body.GroupRefusal g)) = commit_view 77 g false 0
+view_of (Some (body.OtherCommit s)) = commit_view s 0 false 0
+view_of (Some (body.Confirm n)) = confirm_view 2 0 n
+view_of (Some (body.OtherConfirm s)) = confirm_view 2 s 0
+view_of None = confirm_view 0 0 0
 
 unfoldable pub view : List ℕ → List ℕ → View
 view groups frame = view_of (read_body groups frame)
+
+-- the view that a reader hands on
+unfoldable pub read_view : List ℕ → List ℕ → Option View
+read_view groups frame = option_map (λ b. view_of (Some b)) (read_body groups frame)
 
 -- ---- the message: token and commit as they are stored
 

@@ -1,13 +1,13 @@
 // What the rules see of a frame: one view of its body, made when the body is read, and the message that it gives.
 #![tactic(auto)]
 
-ghost use Rattle.std.specs.Prelude.{◌≡◌, ◌≤◌, length};
+ghost use Rattle.std.specs.Prelude.{◌≡◌, ◌≤◌, length, IfSome};
 ghost use Rattle.groups.specs.Groups.{width, stored};
-ghost use Rattle.message.specs.View.{commit_view, confirm_view, view_of, view, stored_token, message_of};
+ghost use Rattle.message.specs.View.{commit_view, confirm_view, view_of, read_view, stored_token, message_of};
 
 use frame::Body;
 
-// A body by its numbers: sequence (1 Commit, 2 Confirm, 0 not of the shapes), status, group, counter, whether the group is supported, and the
+// A body by its numbers, as the rules' messages have them: sequence (1 Commit, 2 Confirm), status, group, counter, whether the group is supported, and the
 // length of its token. What a body of its kind does not have is zero.
 #[derive(Clone, Copy)]
 pub struct View {
@@ -24,38 +24,31 @@ fn commit_view(status: u16, group: u16, listed: bool, toklen: u16) -> View
 {
     View {
         sequence: 1,
-        status: status,
-        group: group,
+        status,
+        group,
         counter: 0,
-        listed: listed,
-        toklen: toklen,
+        listed,
+        toklen,
     }
 }
 
-fn confirm_view(sequence: u16, status: u16, counter: u16) -> View
-    ensures { result ≡ confirm_view sequence status counter }
+fn confirm_view(status: u16, counter: u16) -> View
+    ensures { result ≡ confirm_view 2 status counter }
 {
     View {
-        sequence: sequence,
-        status: status,
+        sequence: 2,
+        status,
         group: 0,
-        counter: counter,
+        counter,
         listed: false,
         toklen: 0,
     }
 }
 
-// The view of a body that was not read.
-pub fn unread() -> View
-    ensures { result ≡ confirm_view 0 0 0 }
-{
-    confirm_view(0, 0, 0)
-}
-
-// The view of each shape.
+// The view of each shape. It asks that the token fits a view, so it is no `From`.
 fn view_of(b: Body) -> View
-    requires { (view_of b).toklen ≤ 256 }
-    ensures { result ≡ view_of b }
+    requires { (view_of (Some b)).toklen ≤ 256 }
+    ensures { result ≡ view_of (Some b) }
 {
     match b {
         Body::Commit { group, token } => commit_view(0, group, true, token as u16),
@@ -63,18 +56,18 @@ fn view_of(b: Body) -> View
         Body::TokenRequest { group, token } => commit_view(76, group, false, token as u16),
         Body::GroupRefusal { group } => commit_view(77, group, false, 0),
         Body::OtherCommit { status } => commit_view(status, 0, false, 0),
-        Body::Confirm { counter } => confirm_view(2, 0, counter),
-        Body::OtherConfirm { status } => confirm_view(2, status, 0),
-        Body::Malformed => unread(),
+        Body::Confirm { counter } => confirm_view(0, counter),
+        Body::OtherConfirm { status } => confirm_view(status, 0),
     }
 }
 
-// The body is read.
-pub fn read(groups: &[u16], body: &[u8]) -> View
-    ensures { (result ≡ view groups.now body.now) × (result.toklen ≤ 256) }
+// The body is read. One that is not of the shapes has no view.
+pub fn read(groups: &[u16], body: &[u8]) -> Option<View>
+    ensures view { result ≡ read_view groups.now body.now }
+    ensures short { IfSome result (λ v. v.toklen ≤ 256) }
 {
-    let b = frame::read(groups, body);
-    view_of(b)
+    let b = frame::read(groups, body)?;
+    Some(view_of(b))
 }
 
 // A token as it is stored: [0; 256] filled with it.

@@ -26,10 +26,10 @@ use Rattle.table.proofs.Octets.{Fits, none, more, FitTable, decode-encode, encod
 use Rattle.table.proofs.Laws.{sound-header, sound-whole, sound-peer, peers-held}
 use Rattle.table.proofs.Fit.{fit-decoded, fit-slot}
 use Rattle.table.proofs.Kept as kept
-use Rattle.answers.specs.declared.Refusal.{Refusal}
-use Rattle.answers.specs.declared.Refusal.TheVariants as why
-use Rattle.answers.specs.declared.Outcome.{Outcome}
-use Rattle.answers.specs.declared.Outcome.TheVariants as outcome
+use Rattle.causes.specs.declared.Refusal.{Refusal}
+use Rattle.causes.specs.declared.Refusal.TheVariants as why
+use Rattle.answers.specs.Outcome.{Outcome}
+use Rattle.answers.specs.Outcome as outcome
 use Rattle.moves.specs.declared.Direction.{Direction}
 use Rattle.moves.specs.declared.Direction.TheVariants.{Forward, Back}
 use Rattle.moves.specs.Moves.{source_form, target_form, opposite, sized, resized, moved, SameContents, is_of, hindered, hindrance, fitting, Moved, refuse_move, moves}

@@ -17,9 +17,9 @@ use Rattle.table.specs.Table.{decode_table, sound, Looked}
 use Rattle.soundness.proofs.Laws.{header-count}
 use Rattle.table.proofs.Laws.{looked-sound, looked-header, sound-header, sound-small}
 use Rattle.table.proofs.Octets.{after-header}
-use Rattle.answers.specs.declared.Refusal.{Refusal}
-use Rattle.answers.specs.declared.Refusal.TheVariants as why
-use Rattle.answers.specs.declared.Outcome.TheVariants as outcome
+use Rattle.causes.specs.declared.Refusal.{Refusal}
+use Rattle.causes.specs.declared.Refusal.TheVariants as why
+use Rattle.answers.specs.Outcome as outcome
 use Rattle.moves.specs.declared.Direction.{Direction}
 use Rattle.moves.specs.declared.Direction.TheVariants.{Forward, Back}
 use Rattle.moves.specs.Moves.{source_form, target_form, moved, is_of, hindered, hindrance, fitting, Moved, refuse_move, moves, Moves, Carried}

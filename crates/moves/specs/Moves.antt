@@ -7,10 +7,10 @@ use Rattle.record.specs.declared.Form.{Form}
 use Rattle.record.specs.declared.Header.{Header}
 use Rattle.record.specs.Layout.{narrow, wide, form_of, groups_of, record_size, record_at}
 use Rattle.table.specs.Table.{Table, decode_table, encode_table, sound, Reaches, Reached}
-use Rattle.answers.specs.declared.Refusal.{Refusal}
-use Rattle.answers.specs.declared.Refusal.TheVariants as why
-use Rattle.answers.specs.declared.Outcome.{Outcome}
-use Rattle.answers.specs.declared.Outcome.TheVariants as outcome
+use Rattle.causes.specs.declared.Refusal.{Refusal}
+use Rattle.causes.specs.declared.Refusal.TheVariants as why
+use Rattle.answers.specs.Outcome.{Outcome}
+use Rattle.answers.specs.Outcome as outcome
 use Rattle.moves.specs.declared.Direction.{Direction}
 use Rattle.moves.specs.declared.Direction.TheVariants.{Forward, Back}
 

@@ -1,11 +1,10 @@
 -- A change of group: the first group that is left, or none.
+use Rattle.std.specs.Prelude.{Option, Some, None}
 use mathlib.Core.Path.{◌≡◌, refl, subst}
 use mathlib.Core.List.{List}
 use Prim.Native.Nat.{ℕ, ◌+◌, ◌*◌, ◌≤◌}
 use lib.ListN.{length}
 use Rattle.groups.specs.Groups.{first_left, index_of, mark, fresh_at}
-use Rattle.groups.specs.declared.Choice.{Choice}
-use Rattle.groups.specs.declared.Choice.TheVariants as choice
 use Rattle.groups.proofs.Laws.{chosen, room_in}
 use Rattle.record.specs.declared.Peer.{Peer}
 use Rattle.rules.specs.declared.Clock.{Clock}
@@ -16,24 +15,24 @@ use Rattle.rules.specs.Book.{commit_frame, sending, abandoning, switching_to, sw
 use Rattle.rules.specs.Said.{Does}
 
 pub switch-room :
-    (W : ℕ) (gs : List ℕ) (n rejected k g : ℕ) (x : Choice) → x ≡ first_left gs 0 rejected → x ≡ choice.Group k g → n ≡ W * length gs → W * k + W ≤ n
+    (W : ℕ) (gs : List ℕ) (n rejected k g : ℕ) (x : Option (ℕ × ℕ)) → x ≡ first_left gs 0 rejected → x ≡ Some (k, g) → n ≡ W * length gs → W * k + W ≤ n
 switch-room W gs n rejected k g x a b h =
-    let e : first_left gs 0 rejected ≡ choice.Group k g = cc in
+    let e : first_left gs 0 rejected ≡ Some (k, g) = cc in
     room_in W k (length gs) n (chosen gs rejected k g e).0 h
 
 to-group : (κ : Clock) (p : Peer) (rejected k g : ℕ) (fresh : List (List ℕ)) →
-    switching_to κ p rejected (choice.Group k g) fresh ≡ sending κ p (switched p.run rejected g (fresh_at fresh k)) (One (commit_frame g)) g
+    switching_to κ p rejected (Some (k, g)) fresh ≡ sending κ p (switched p.run rejected g (fresh_at fresh k)) (One (commit_frame g)) g
 unfolding switching_to
 to-group κ p rejected k g fresh = refl
 
-to_none : (κ : Clock) (p : Peer) (rejected : ℕ) (fresh : List (List ℕ)) → switching_to κ p rejected choice.None fresh ≡ abandoning p
+to_none : (κ : Clock) (p : Peer) (rejected : ℕ) (fresh : List (List ℕ)) → switching_to κ p rejected None fresh ≡ abandoning p
 unfolding switching_to
 to_none κ p rejected fresh = refl
 
 pub switch-law :
-    (W : ℕ) (κ : Clock) (p : Peer) (gs : List ℕ) (fresh : List (List ℕ)) (x : Said) (left : List ℕ) (ours before i rejected k g : ℕ) (c : Choice) (own : List ℕ) →
+    (W : ℕ) (κ : Clock) (p : Peer) (gs : List ℕ) (fresh : List (List ℕ)) (x : Said) (left : List ℕ) (ours before i rejected k g : ℕ) (c : Option (ℕ × ℕ)) (own : List ℕ) →
     ours ≡ p.run.group → before ≡ p.run.rejected →
-    i ≡ index_of gs ours → rejected ≡ mark before i → c ≡ first_left gs 0 rejected → c ≡ choice.Group k g → own ≡ fresh_at fresh k →
+    i ≡ index_of gs ours → rejected ≡ mark before i → c ≡ first_left gs 0 rejected → c ≡ Some (k, g) → own ≡ fresh_at fresh k →
     Does W x left (sending κ p (switched p.run rejected g own) (One (commit_frame g)) g) → Does W x left (switching κ p gs fresh)
 unfolding switching
 switch-law W κ p gs fresh x left ours before i rejected k g c own a b d e f h j l =
@@ -41,8 +40,8 @@ switch-law W κ p gs fresh x left ours before i rejected k g c own a b d e f h j
     subst (Does W x left) q l
 
 pub switch-none :
-    (W : ℕ) (κ : Clock) (p : Peer) (gs : List ℕ) (fresh : List (List ℕ)) (x : Said) (left : List ℕ) (ours before i rejected : ℕ) (c : Choice) →
-    ours ≡ p.run.group → before ≡ p.run.rejected → i ≡ index_of gs ours → rejected ≡ mark before i → c ≡ first_left gs 0 rejected → c ≡ choice.None →
+    (W : ℕ) (κ : Clock) (p : Peer) (gs : List ℕ) (fresh : List (List ℕ)) (x : Said) (left : List ℕ) (ours before i rejected : ℕ) (c : Option (ℕ × ℕ)) →
+    ours ≡ p.run.group → before ≡ p.run.rejected → i ≡ index_of gs ours → rejected ≡ mark before i → c ≡ first_left gs 0 rejected → c ≡ None →
     Does W x left (abandoning p) → Does W x left (switching κ p gs fresh)
 unfolding switching
 switch-none W κ p gs fresh x left ours before i rejected c a b d e f h j =

@@ -7,7 +7,6 @@ ghost use Rattle.groups.specs.Groups.{width, listed};
 ghost use Rattle.record.specs.Layout.{run_size, link_size, record_size, decode_run, decode_link, decode_peer};
 ghost use Rattle.soundness.specs.Soundness.{rejected_ok, token_ok, committed_ok, confirmed_ok, run_ok, finished_ok, link_ok, in_use_ok, peer_ok};
 
-use octets::Found;
 use record::{
     ADDRESS, FINISHED, GROUP, LINK_GROUP, LINK_OWN, LINK_SYNC, NARROW_LINK, NARROW_RECORD,
     NARROW_RUN, NARROW_WIDTH, REJECTED, RUN, RUN_OWN, SC, SPARE, STATE, SUPERSEDED, SYNC, TOKEN,
@@ -49,12 +48,12 @@ fn rejected_ok(s: &[u8], w: usize, groups: &[u16]) -> bool
     let rejected = octets::get8(s, REJECTED);
     let group = octets::get16(s, GROUP);
     match groups::place_of(groups, group) {
-        Found::At(i) => {
+        Some(i) => {
             let own = groups::is_marked(rejected, i);
             let past = groups::marks_from(rejected, groups.len());
             (past == 0) & !own
         }
-        Found::Nothing => false,
+        None => false,
     }
 }
 

@@ -1,4 +1,5 @@
 -- What an act makes of a record that fits and has the form, with sound inputs, fits and has the form too, or is the free one, and is the address's.
+use Rattle.std.specs.Prelude.{Option, Some, None, is_some}
 use mathlib.Core.Path.{◌≡◌, refl, sym, ap, ◌∙◌, subst}
 use mathlib.Core.Bool.{Bool, true, false, not, ◌||◌}
 use mathlib.Core.List.{List, [], ◌∷◌}
@@ -11,10 +12,7 @@ use lib.Pow.{pow-add}
 use lib.Dec.{eqb, lit<, lit≤}
 use lib.ListN.{length, drop, get_or, replicate, length-replicate}
 use borrow.Author.Tests.{eqb-false, eq-eqb, ne_eqb, not-true}
-use Rattle.octets.specs.Scan.{is_nothing}
 use Rattle.octets.specs.Octets.{Bytes, all_zero}
-use Rattle.octets.specs.declared.Found.{Found}
-use Rattle.octets.specs.declared.Found.TheVariants.{At, Nothing}
 use Rattle.octets.proofs.Laws.{bytes-part}
 use Rattle.octets.proofs.Scan.{clash, and_left, and_right}
 use Rattle.octets.proofs.Tests.{zero-zeros}
@@ -234,7 +232,7 @@ listed_at (x ∷ gs) (suc k) g h e = or_right (eqb x g) (listed gs g) (listed_at
     or_right true c e = refl
     or_right false c e = e
 
-placed_at : (gs : List ℕ) (i k g : ℕ) → each_once gs ≡ true → k < length gs → get_or gs k 0 ≡ g → place_from gs i g ≡ At (i + k)
+placed_at : (gs : List ℕ) (i k g : ℕ) → each_once gs ≡ true → k < length gs → get_or gs k 0 ≡ g → place_from gs i g ≡ Some (i + k)
 unfolding place_from each_once
 placed_at [] i k g o h e = absurd (omega arith)
 placed_at (x ∷ gs) i zero g o h e = let z : i + 0 ≡ i = omega arith in rw (eq-eqb x g e, z) refl
@@ -254,9 +252,9 @@ pub index_listed : (gs : List ℕ) (g : ℕ) → listed gs g ≡ true → (index
 unfolding index_of
 index_listed gs g l = go (place gs g) refl (sym (listed-place gs g) ∙ l)
   where
-    go : (f : Found) → place gs g ≡ f → not (is_nothing f) ≡ true → (place_or0 f < length gs) × (get_or gs (place_or0 f) 0 ≡ g)
-    go (At k) e n = place_at gs g k e
-    go Nothing e n = absurd (clash n refl)
+    go : (f : Option ℕ) → place gs g ≡ f → (is_some f) ≡ true → (place_or0 f < length gs) × (get_or gs (place_or0 f) 0 ≡ g)
+    go (Some k) e n = place_at gs g k e
+    go None e n = absurd (clash n refl)
 
 -- the fresh commit of a listed group
 pub fresh-stored : (gs : List ℕ) (fresh : List (List ℕ)) (g : ℕ) → Stock gs fresh → listed gs g ≡ true → Stored g (fresh_for gs fresh g)

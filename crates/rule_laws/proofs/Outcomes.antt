@@ -4,10 +4,8 @@ use mathlib.Core.Bool.{Bool, true, false}
 use mathlib.Core.List.{List}
 use Prim.Native.Nat.{ℕ, ◌+◌, ◌≤◌, ◌<◌}
 use borrow.Author.Tests.{eqb-true, eqb-false, ltb-true, ltb-false}
-use Rattle.std.specs.Prelude.{if◌then◌else◌}
+use Rattle.std.specs.Prelude.{if◌then◌else◌, Option, Some, None}
 use Rattle.groups.specs.Groups.{fresh_at, first_left, index_of, mark}
-use Rattle.groups.specs.declared.Choice.{Choice}
-use Rattle.groups.specs.declared.Choice.TheVariants as choice
 use Rattle.record.specs.declared.Run.{Run}
 use Rattle.record.specs.declared.Peer.{Peer}
 use Rattle.record.specs.Layout.{no_peer}
@@ -23,18 +21,18 @@ whether P false x y f g = g refl
 
 -- "77: our group": a group is left, or none is
 pub switch-outcomes : (P : Step → Type 0) (κ : Clock) (p : Peer) (groups : List ℕ) (fresh : List (List ℕ)) →
-    ((i g : ℕ) → first_left groups 0 (mark p.run.rejected (index_of groups p.run.group)) ≡ choice.Group i g
+    ((i g : ℕ) → first_left groups 0 (mark p.run.rejected (index_of groups p.run.group)) ≡ Some (i, g)
     → P (sending κ p (switched p.run (mark p.run.rejected (index_of groups p.run.group)) g (fresh_at fresh i)) (One (commit_frame g)) g))
-    → (first_left groups 0 (mark p.run.rejected (index_of groups p.run.group)) ≡ choice.None → P (abandoning p))
+    → (first_left groups 0 (mark p.run.rejected (index_of groups p.run.group)) ≡ None → P (abandoning p))
     → P (switching κ p groups fresh)
 unfolding switching switching_to
 switch-outcomes P κ p groups fresh f g = go (mark p.run.rejected (index_of groups p.run.group)) (first_left groups 0 (mark p.run.rejected (index_of groups p.run.group))) f g
   where
-    go : (r : ℕ) (c : Choice) →
-        ((i g : ℕ) → c ≡ choice.Group i g → P (sending κ p (switched p.run r g (fresh_at fresh i)) (One (commit_frame g)) g))
-        → (c ≡ choice.None → P (abandoning p)) → P (switching_to κ p r c fresh)
-    go r (choice.Group i g) f h = f i g refl
-    go r choice.None f h = h refl
+    go : (r : ℕ) (c : Option (ℕ × ℕ)) →
+        ((i g : ℕ) → c ≡ Some (i, g) → P (sending κ p (switched p.run r g (fresh_at fresh i)) (One (commit_frame g)) g))
+        → (c ≡ None → P (abandoning p)) → P (switching_to κ p r c fresh)
+    go r (Some (i, g)) f h = f i g refl
+    go r None f h = h refl
 
 pub repeat-outcomes : (P : Step → Type 0) (κ : Clock) (p : Peer) (r : Run) (fs : Frames) →
     (κ.limit < p.run.sync → P (abandoning p))

@@ -4,11 +4,9 @@
 --   3  the acts                what each does to the record, what it sends and tells
 --   4  the rules               perform what the ladder says; there is no other saying of them
 -- A request that changes when something is done changes a line of 2; one that changes what is done changes a case of 3.
-use Rattle.std.specs.Prelude.{Bool, true, false, not, ◌&&◌, ◌||◌, List, ℕ, ◌+◌, ◌-◌, ◌*◌, ◌^◌, ◌%◌, eqb, ltb, take, get_or, replicate, if◌then◌else◌}
+use Rattle.std.specs.Prelude.{Bool, true, false, not, ◌&&◌, ◌||◌, List, ℕ, ◌+◌, ◌-◌, ◌*◌, ◌^◌, ◌%◌, eqb, ltb, take, get_or, replicate, if◌then◌else◌, Option, Some, None}
 use Rattle.octets.specs.Octets.{part, same, higher}
 use Rattle.groups.specs.Groups.{width, scalar_length, index_of, mark, first_left, fresh_at, fresh_for}
-use Rattle.groups.specs.declared.Choice.{Choice}
-use Rattle.groups.specs.declared.Choice.TheVariants as choice
 use Rattle.record.specs.declared.Run.{Run}
 use Rattle.record.specs.declared.Link.{Link}
 use Rattle.record.specs.declared.Peer.{Peer}
@@ -22,7 +20,8 @@ use Rattle.rules.specs.declared.Event.{Event}
 use Rattle.rules.specs.declared.Event.TheVariants as event
 use Rattle.rules.specs.declared.Frame.{Frame}
 use Rattle.rules.specs.declared.Frames.{Frames}
-use Rattle.rules.specs.declared.Frames.TheVariants.{None, One, Two}
+use Rattle.rules.specs.declared.Frames.TheVariants.{One, Two}
+use Rattle.rules.specs.declared.Frames.TheVariants as frames
 
 -- ==== 1. What a rule sees =========================================================================================================================
 
@@ -303,7 +302,7 @@ answering p fs = record { peer = p; event = event.None; frames = fs; afresh = 0;
 
 -- "no slot, refuse"
 unfoldable pub refusing : Peer → Step
-refusing p = record { peer = p; event = event.None; frames = None; afresh = 0; refused = true }
+refusing p = record { peer = p; event = event.None; frames = frames.None; afresh = 0; refused = true }
 
 -- "A run or link that ends in any way leaves its fields zero; a record with neither is freed."
 unfoldable pub settled : Peer → Peer
@@ -311,11 +310,11 @@ settled p = if p.run.state is 0 then (if p.link.finished is 0 then no_peer else 
 
 -- "Give up": the run ends.
 unfoldable pub abandoning : Peer → Step
-abandoning p = record { peer = settled (with_run p no_run); event = event.Abandoned; frames = None; afresh = 0; refused = false }
+abandoning p = record { peer = settled (with_run p no_run); event = event.Abandoned; frames = frames.None; afresh = 0; refused = false }
 
 -- the link ends; a run stays
 unfoldable pub ending_link : Peer → Step
-ending_link p = record { peer = settled (with_link p no_link); event = event.Ended; frames = None; afresh = 0; refused = false }
+ending_link p = record { peer = settled (with_link p no_link); event = event.Ended; frames = frames.None; afresh = 0; refused = false }
 
 -- "Repeat": if Sync is above 5 (the table's limit), give up; else Sync + 1, send, set t0. The run that goes on is r: the record's, with the Sc or the token that it then has.
 unfoldable pub retransmitting : Clock → Peer → Run → Frames → Step
@@ -325,7 +324,7 @@ retransmitting κ p r fs =
 
 -- "Drop": send nothing; "a dropped frame changes nothing in the table" (request b).
 unfoldable pub dropping : Peer → Step
-dropping p = answering p None
+dropping p = answering p frames.None
 
 -- a finished link's mark becomes 1
 unfoldable pub supersede : Link → Link
@@ -390,9 +389,9 @@ starting κ p address group own =
     }
 
 -- "mark it rejected and take the first group in its own list that is not marked as rejected, with a fresh commit (Sync and token stay, send, set t0); none, give up"
-unfoldable pub switching_to : Clock → Peer → ℕ → Choice → List (List ℕ) → Step
-switching_to κ p rejected (choice.Group i g) fresh = sending κ p (switched p.run rejected g (fresh_at fresh i)) (One (commit_frame g)) g
-switching_to κ p rejected choice.None fresh = abandoning p
+unfoldable pub switching_to : Clock → Peer → ℕ → Option (ℕ × ℕ) → List (List ℕ) → Step
+switching_to κ p rejected (Some (i, g)) fresh = sending κ p (switched p.run rejected g (fresh_at fresh i)) (One (commit_frame g)) g
+switching_to κ p rejected None fresh = abandoning p
 
 unfoldable pub switching : Clock → Peer → List ℕ → List (List ℕ) → Step
 switching κ p groups fresh =
@@ -419,7 +418,7 @@ accepting p counter time =
     record {
       peer = record { used = p.used; address = p.address; run = no_run; link = link_of_run p.run counter time };
       event = event.Accepted;
-      frames = None;
+      frames = frames.None;
       afresh = 0;
       refused = false;
     }
@@ -460,7 +459,7 @@ resending_both κ p = sending κ p (with_sync (with_sc p.run (p.run.sc + 1)) (p.
 
 -- "Rc is the counter", which is 65,535
 unfoldable pub hearing_last : Peer → ℕ → Step
-hearing_last p counter = answering (with_link p (heard_again p.link counter p.link.sync)) None
+hearing_last p counter = answering (with_link p (heard_again p.link counter p.link.sync)) frames.None
 
 -- "Rc is the counter, and unless that is 65,535, Sync + 1 and a Confirm with counter 65,535"
 unfoldable pub hearing_again : Peer → ℕ → Step

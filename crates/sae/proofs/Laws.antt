@@ -8,7 +8,8 @@ use lib.Dec.{eqb}
 use lib.ListN.{length, replicate, take, length-append, length-drop}
 use borrow.Author.Tests.{eq-eqb, ne_eqb, not-true, not-false}
 use Rattle.octets.specs.Octets.{put, part, num, oct}
-use Rattle.std.specs.Prelude.{if◌then◌else◌}
+use Rattle.causes.specs.Causes.{number}
+use Rattle.std.specs.Prelude.{if◌then◌else◌, Result, Err}
 use Rattle.octets.proofs.Laws.{length-oct}
 use Rattle.record.specs.Codec.{glue, total}
 use Rattle.record.specs.declared.Header.{Header}
@@ -34,17 +35,13 @@ use Rattle.record.specs.declared.Peer.{Peer}
 use Rattle.table.specs.Table.{decode_table, sound, Looked}
 use Rattle.table.proofs.Laws.{looked-sound, looked-header}
 use Rattle.good_links.specs.GoodLinks.{filled, fills}
-use Rattle.answers.specs.declared.Answer.{Answer}
-use Rattle.answers.specs.Answers.{Left, Leaves, returned, number, refused}
-use Rattle.answers.specs.declared.Outcome.{Outcome}
-use Rattle.answers.specs.declared.Refusal.{Refusal}
-use Rattle.answers.specs.declared.Refusal.TheVariants as why
+use Rattle.answers.specs.Answers.{Told, Left, Leaves, returned, refused}
+use Rattle.answers.specs.Outcome.{Outcome}
+use Rattle.causes.specs.declared.Refusal.{Refusal}
+use Rattle.causes.specs.declared.Refusal.TheVariants as why
 use Rattle.calls.specs.Calls.{initializes, initializes_from}
-use Rattle.writer.specs.declared.Wrote.{Wrote}
-use Rattle.writer.specs.declared.Wrote.TheVariants as wrote
 use Rattle.writer.specs.Writer.{LeftOut, LeavesOut, writes_parts, record_commit, record_confirm, record_body, writes_record}
 use Rattle.writer.proofs.Theorems.{Draws, outside, short, whole, FromParts, malformed, made, FromRecord, unsound, unusable, absent, drawn, parts-one, record-one}
-use Rattle.lookups.specs.declared.Asked.{Asked}
 use Rattle.lookups.specs.Lookups.{asked_returned}
 use Rattle.moves.specs.Moves.{Moved, Moves}
 use Rattle.sae.specs.Interface.{none_due_flag, frame_octets, framed_octets, frames_octets, answer_octets, is_refused, answer_left, Returns, has_token, has_value, handed_at, handed_length, rest_at, parts_octets, read_number, read_parts, Reads, wrote_number, written_left, Counted, Writes, asked_left, Asks, fill_number, Fills, MovesTo}
@@ -103,7 +100,7 @@ length-frames f fs e = ap length e ∙ go f
     go (frames.One g) = framed-length 1 (frame_octets g) (replicate 8 0) (frame-length g) refl
     go (frames.Two g h) = framed-length 2 (frame_octets g) (frame_octets h) (frame-length g) (frame-length h)
 
-pub answer-laid : (x : Answer) (none event : ℕ) (fs z a b c d e : List ℕ) → none ≡ none_due_flag x.outcome → event ≡ event_number x.event → fs ≡ frames_octets x.frames → length x.address ≡ 6 → length fs ≡ 18
+pub answer-laid : (x : Told) (none event : ℕ) (fs z a b c d e : List ℕ) → none ≡ none_due_flag x.outcome → event ≡ event_number x.event → fs ≡ frames_octets x.frames → length x.address ≡ 6 → length fs ≡ 18
     → length z ≡ 28 → a ≡ put z 0 (oct 1 none) → b ≡ put a 1 (oct 1 event) → c ≡ put b 2 (oct 2 x.afresh) → d ≡ put c 4 x.address → e ≡ put d 10 fs → e ≡ answer_octets x
 unfolding answer_octets lay glue total
 answer-laid x none event fs z a b c d e en ee ef ha hf hz ea eb ec ed eg =
@@ -113,7 +110,7 @@ answer-laid x none event fs z a b c d e en ee ef ha hf hz ea eb ec ed eg =
 
 -- ---- the answer, and what is returned
 
-module _ (a : Answer) (given : List ℕ) (b : Bool) (p : b ≡ is_refused a.outcome) where
+module _ (a : Told) (given : List ℕ) (b : Bool) (p : b ≡ is_refused a.outcome) where
   pub left-refused : b ≡ true → given ≡ answer_left a given
   unfolding answer_left
   left-refused q = let z : is_refused a.outcome ≡ true = sym p ∙ q in rw z
@@ -122,8 +119,8 @@ module _ (a : Answer) (given : List ℕ) (b : Bool) (p : b ≡ is_refused a.outc
   unfolding answer_left
   left-answered x q w = let z : is_refused a.outcome ≡ false = sym p ∙ q in rw z w
 
-pub replied : (x : Answer) (t : List ℕ) (l : Left) (r : ℕ) (answer given : List ℕ) → Leaves x t l → r ≡ returned x.outcome → answer ≡ answer_left x given → Returns r t answer given l
-replied x t l r answer given e q w = record { returns = q ∙ ap (λ (y : Answer). returned y.outcome) e.answer; leaves = e.table; answers = w ∙ ap (λ (y : Answer). answer_left y given) e.answer }
+pub replied : (x : Told) (t : List ℕ) (l : Left) (r : ℕ) (answer given : List ℕ) → Leaves x t l → r ≡ returned x.outcome → answer ≡ answer_left x given → Returns r t answer given l
+replied x t l r answer given e q w = record { returns = q ∙ ap (λ (y : Told). returned y.outcome) e.answer; leaves = e.table; answers = w ∙ ap (λ (y : Told). answer_left y given) e.answer }
 
 -- ---- the settings
 
@@ -134,11 +131,11 @@ unfolding settings_of
 settings-are s n g h i k p l en eg eh ei ek ep el = rw (en, eg, eh, ei, ek, ep, el)
 
 module _ (f : Form) (t own s : List ℕ) (b : Bool) (p : b ≡ reserved_zero s) where
-  pub from-reserved : (r : Answer) → not b ≡ true → r ≡ refused why.Settings → Leaves r t (initializes_from f t own s)
+  pub from-reserved : (r : Told) → not b ≡ true → r ≡ refused why.Settings → Leaves r t (initializes_from f t own s)
   unfolding initializes_from
   from-reserved r q w = let z : reserved_zero s ≡ false = sym p ∙ not-true b q in rw z (record { answer = w; table = refl })
 
-  pub from-settings : (x : Settings) (u : List ℕ) (r : Answer) → not b ≡ false → x ≡ settings_of s → Leaves r u (initializes f t own x) → Leaves r u (initializes_from f t own s)
+  pub from-settings : (x : Settings) (u : List ℕ) (r : Told) → not b ≡ false → x ≡ settings_of s → Leaves r u (initializes f t own x) → Leaves r u (initializes_from f t own s)
   unfolding initializes_from
   from-settings x u r q e l = let z : reserved_zero s ≡ true = sym p ∙ not-false b q in rw z (subst (λ (y : Settings). Leaves r u (initializes f t own y)) e l)
 
@@ -342,7 +339,7 @@ small-draws d out l h (outside e) = record { most = λ n k. let z : ◌≡◌ {A
 small-draws d out l h (short s e w) = record { most = λ n k. let z : ◌≡◌ {A = ℕ} 0 1 = cc in absurd (omega arith) }
 small-draws d out l h (whole s e w) = record { most = λ n k. let z : n ≡ length s = cc in omega (arith, h.most s e) }
 
-none-counted : (c : Refusal) → Counted (wrote.Refused c)
+none-counted : (c : Refusal) → Counted (Err c)
 none-counted c = record { most = λ n k. let z : ◌≡◌ {A = ℕ} 0 1 = cc in absurd (omega arith) }
 
 parts-counted : (t : List ℕ) (d : Drawn) (out : List ℕ) (l : LeftOut) → Small d → FromParts t d out l → Counted l.answer
@@ -355,19 +352,19 @@ record-counted t a q value out l (unusable e u) = none-counted _
 record-counted t a q value out l (absent e u f) = none-counted _
 record-counted t a q value out l (drawn k e u f w) = small-draws _ out l (small-record _ _ q value) w
 
-pub counted-parts : (t : List ℕ) (q x g n : ℕ) (token rest out u : List ℕ) (w : Wrote) → LeavesOut w u (writes_parts t q x g n token rest out) → Counted w
+pub counted-parts : (t : List ℕ) (q x g n : ℕ) (token rest out u : List ℕ) (w : Result ℕ Refusal) → LeavesOut w u (writes_parts t q x g n token rest out) → Counted w
 counted-parts t q x g n token rest out u w l = subst Counted (sym l.answer) (parts-counted t _ out _ (small-parts _ q x g n token rest) (parts-one t q x g n token rest out))
 
-pub counted-record : (t a : List ℕ) (q : ℕ) (value out u : List ℕ) (w : Wrote) → LeavesOut w u (writes_record t a q value out) → Counted w
+pub counted-record : (t a : List ℕ) (q : ℕ) (value out u : List ℕ) (w : Result ℕ Refusal) → LeavesOut w u (writes_record t a q value out) → Counted w
 counted-record t a q value out u w l = subst Counted (sym l.answer) (record-counted t a q value out _ (record-one t a q value out))
 
-pub wrote-replied : (w : Wrote) (u : List ℕ) (l : LeftOut) (r n given : ℕ) → LeavesOut w u l → r ≡ wrote_number w → n ≡ written_left w given → Writes r u n given l
-wrote-replied w u l r n given e q k = record { returns = q ∙ ap wrote_number e.answer; leaves = e.out; counts = k ∙ ap (λ (y : Wrote). written_left y given) e.answer }
+pub wrote-replied : (w : Result ℕ Refusal) (u : List ℕ) (l : LeftOut) (r n given : ℕ) → LeavesOut w u l → r ≡ wrote_number w → n ≡ written_left w given → Writes r u n given l
+wrote-replied w u l r n given e q k = record { returns = q ∙ ap wrote_number e.answer; leaves = e.out; counts = k ∙ ap (λ (y : Result ℕ Refusal). written_left y given) e.answer }
 
 -- ---- a lookup
 
-pub asked-replied : (a x : Asked) (r left given : ℕ) → a ≡ x → (r ≡ asked_returned a) × (left ≡ asked_left a given) → Asks r left given x
-asked-replied a x r left given e w = record { returns = w.0 ∙ ap asked_returned e; leaves = w.1 ∙ ap (λ (y : Asked). asked_left y given) e }
+pub asked-replied : (a x : Result ℕ Refusal) (r left given : ℕ) → a ≡ x → (r ≡ asked_returned a) × (left ≡ asked_left a given) → Asks r left given x
+asked-replied a x r left given e w = record { returns = w.0 ∙ ap asked_returned e; leaves = w.1 ∙ ap (λ (y : Result ℕ Refusal). asked_left y given) e }
 
 -- what `sae_fill` shows
 pub fill_done : (t u : List ℕ) (b : Bool) → (b ≡ sound (filled t)) × (u ≡ fills t) → b ≡ true → Fills 0 u t

@@ -10,7 +10,8 @@ use lib.ListN.{length, take, drop, length-drop}
 use lib.Seq.{take_all, length-take-le}
 use borrow.Author.Tests.{ne_eqb}
 use Rattle.octets.specs.Octets.{part, num, oct, Bytes}
-use Rattle.std.specs.Prelude.{if◌then◌else◌}
+use Rattle.causes.specs.Causes.{number}
+use Rattle.std.specs.Prelude.{if◌then◌else◌, Option, Some, None, Result, Ok, Err}
 use Rattle.octets.proofs.Laws.{num-oct}
 use Rattle.frame.specs.Frame.{field, elements_of, read_body, token_of, value_of}
 use Rattle.frame.specs.declared.Body.{Body}
@@ -23,11 +24,8 @@ use Rattle.rules.specs.Book.{◌is◌}
 use Rattle.message.specs.declared.View.{View}
 use Rattle.message.specs.View.{commit_view, confirm_view, view_of, view}
 use Rattle.message.proofs.Laws.{view-short}
-use Rattle.answers.specs.declared.Refusal.{Refusal}
-use Rattle.answers.specs.declared.Refusal.TheVariants as why
-use Rattle.answers.specs.Answers.{number}
-use Rattle.writer.specs.declared.Wrote.{Wrote}
-use Rattle.writer.specs.declared.Wrote.TheVariants as wrote
+use Rattle.causes.specs.declared.Refusal.{Refusal}
+use Rattle.causes.specs.declared.Refusal.TheVariants as why
 use Rattle.writer.specs.Writer.{LeftOut, writes_record}
 use Rattle.writer.specs.RoundTrip.{Parts, rest_of, parts_of, parts_in, groups_in, writes_from, Copied, Again, ConfirmAgain, Numbers, Back, record_parts}
 use Rattle.writer.proofs.RoundTrip.{parts-back, record-back}
@@ -116,20 +114,20 @@ laid-confirm s x at = record { sequence = 2; status = x; group = 0; counter = 0;
 abbrev read-confirm : List ℕ → ℕ → List ℕ → Parts
 read-confirm s x rest = record { sequence = 2; status = x; group = 0; counter = 0; token = []; rest = rest }
 
-laid_by : (s : List ℕ) (B : Body) → laid_out s (view_of B) ≡ parts_of s (view_of B)
+laid_by : (s : List ℕ) (B : Option Body) → laid_out s (view_of B) ≡ parts_of s (view_of B)
 unfolding handed_at handed_length rest_at token_from rest_from rest_of token_of value_of part
-laid_by s (body.Commit g n) = rw (ne_eqb (8 + n) 0 (λ z. omega arith), commit_is s g n)
-laid_by s (body.Unsupported g) = refl
-laid_by s (body.TokenRequest g n) = refl
-laid_by s (body.GroupRefusal g) = refl
-laid_by s (body.OtherCommit x) = refl
-laid_by s (body.Confirm n) = refl
-laid_by s (body.OtherConfirm x) = go (x is 0)
+laid_by s (Some (body.Commit g n)) = rw (ne_eqb (8 + n) 0 (λ z. omega arith), commit_is s g n)
+laid_by s (Some (body.Unsupported g)) = refl
+laid_by s (Some (body.TokenRequest g n)) = refl
+laid_by s (Some (body.GroupRefusal g)) = refl
+laid_by s (Some (body.OtherCommit x)) = refl
+laid_by s (Some (body.Confirm n)) = refl
+laid_by s (Some (body.OtherConfirm x)) = go (x is 0)
   where
     go : (b : Bool) → laid-confirm s x (if b then 8 else 0) ≡ read-confirm s x (if b then value_of s else [])
     go true = refl
     go false = refl
-laid_by s body.Malformed = refl
+laid_by s None = refl
 
 -- the parts are those that the reader hands back
 points : (gs s : List ℕ) → Fits (view gs s) s → pointed_out (parts_octets (view gs s) s) s ≡ parts_in gs s
@@ -139,16 +137,16 @@ points gs s f = laid-out (view gs s) s f ∙ laid_by s (read_body gs s)
 -- ---- the numbers of a body that was read
 
 -- what is handed back is no longer than a body
-handed-by : (gs s : List ℕ) (B : Body) → read_body gs s ≡ B → handed_length (view_of B) s ≤ 2304
+handed-by : (gs s : List ℕ) (B : Option Body) → read_body gs s ≡ B → handed_length (view_of B) s ≤ 2304
 unfolding handed_length elements_of
-handed-by gs s (body.Commit g n) e = omega (arith, (commit-shape gs s g n e).token)
-handed-by gs s (body.Unsupported g) e = lit≤ tt
-handed-by gs s (body.TokenRequest g n) e = omega (arith, (token-request-shape gs s g n e).token)
-handed-by gs s (body.GroupRefusal g) e = lit≤ tt
-handed-by gs s (body.OtherCommit x) e = lit≤ tt
-handed-by gs s (body.Confirm n) e = omega (arith, length-drop 40 s, (confirm-shape gs s n e).head.longest)
-handed-by gs s (body.OtherConfirm x) e = rw (ne_eqb x 0 (other-confirm-shape gs s x e).not_zero) (lit≤ tt)
-handed-by gs s body.Malformed e = lit≤ tt
+handed-by gs s (Some (body.Commit g n)) e = omega (arith, (commit-shape gs s g n e).token)
+handed-by gs s (Some (body.Unsupported g)) e = lit≤ tt
+handed-by gs s (Some (body.TokenRequest g n)) e = omega (arith, (token-request-shape gs s g n e).token)
+handed-by gs s (Some (body.GroupRefusal g)) e = lit≤ tt
+handed-by gs s (Some (body.OtherCommit x)) e = lit≤ tt
+handed-by gs s (Some (body.Confirm n)) e = omega (arith, length-drop 40 s, (confirm-shape gs s n e).head.longest)
+handed-by gs s (Some (body.OtherConfirm x)) e = rw (ne_eqb x 0 (other-confirm-shape gs s x e).not_zero) (lit≤ tt)
+handed-by gs s None e = lit≤ tt
 
 handed-short : (gs s : List ℕ) → handed_length (view gs s) s ≤ 2304
 unfolding view
@@ -164,15 +162,15 @@ module _ (gs s : List ℕ) (b : Bytes s) where
   confirm-fits : (q x n : ℕ) → q < 65536 → x < 65536 → n < 65536 → Numbered (confirm_view q x n)
   confirm-fits q x n i j k = record { sequence = i; status = j; group = lit< tt; counter = k; toklen = omega arith }
 
-  fits_by : (B : Body) → read_body gs s ≡ B → Numbered (view_of B)
-  fits_by (body.Commit g n) e = let w = commit-shape gs s g n e in commit-fits 0 g n true (lit< tt) (low 6 g w.group) w.token
-  fits_by (body.Unsupported g) e = commit-fits 0 g 0 false (lit< tt) (low 6 g (other-group-shape gs s g e).group) (omega arith)
-  fits_by (body.TokenRequest g n) e = let w = token-request-shape gs s g n e in commit-fits 76 g n false (lit< tt) (low 6 g w.group) w.token
-  fits_by (body.GroupRefusal g) e = commit-fits 77 g 0 false (lit< tt) (low 6 g (group-refusal-shape gs s g e).group) (omega arith)
-  fits_by (body.OtherCommit x) e = commit-fits x 0 0 false (low 4 x (other-commit-shape gs s x e).status) (lit< tt) (omega arith)
-  fits_by (body.Confirm n) e = confirm-fits 2 0 n (lit< tt) (lit< tt) (low 6 n (confirm-shape gs s n e).counter)
-  fits_by (body.OtherConfirm x) e = confirm-fits 2 x 0 (lit< tt) (low 4 x (other-confirm-shape gs s x e).status) (lit< tt)
-  fits_by body.Malformed e = confirm-fits 0 0 0 (lit< tt) (lit< tt) (lit< tt)
+  fits_by : (B : Option Body) → read_body gs s ≡ B → Numbered (view_of B)
+  fits_by (Some (body.Commit g n)) e = let w = commit-shape gs s g n e in commit-fits 0 g n true (lit< tt) (low 6 g w.group) w.token
+  fits_by (Some (body.Unsupported g)) e = commit-fits 0 g 0 false (lit< tt) (low 6 g (other-group-shape gs s g e).group) (omega arith)
+  fits_by (Some (body.TokenRequest g n)) e = let w = token-request-shape gs s g n e in commit-fits 76 g n false (lit< tt) (low 6 g w.group) w.token
+  fits_by (Some (body.GroupRefusal g)) e = commit-fits 77 g 0 false (lit< tt) (low 6 g (group-refusal-shape gs s g e).group) (omega arith)
+  fits_by (Some (body.OtherCommit x)) e = commit-fits x 0 0 false (low 4 x (other-commit-shape gs s x e).status) (lit< tt) (omega arith)
+  fits_by (Some (body.Confirm n)) e = confirm-fits 2 0 n (lit< tt) (lit< tt) (low 6 n (confirm-shape gs s n e).counter)
+  fits_by (Some (body.OtherConfirm x)) e = confirm-fits 2 x 0 (lit< tt) (low 4 x (other-confirm-shape gs s x e).status) (lit< tt)
+  fits_by None e = confirm-fits 0 0 0 (lit< tt) (lit< tt) (lit< tt)
 
   view-fits : Fits (view gs s) s
   unfolding view
@@ -196,7 +194,7 @@ read-zero t s x given r z e = go (sound t) refl ((view (groups_in t) s).sequence
     go false k m n l = absurd (omega arith)
 
 -- what follows a status 0 Confirm
-behind-by : (gs s : List ℕ) (n : ℕ) → read_body gs s ≡ body.Confirm n → Fits (view gs s) s → PointsBehind s (parts_octets (view gs s) s)
+behind-by : (gs s : List ℕ) (n : ℕ) → read_body gs s ≡ Some (body.Confirm n) → Fits (view gs s) s → PointsBehind s (parts_octets (view gs s) s)
 unfolding view handed_at handed_length elements_of part
 behind-by gs s n e f =
     let v = confirm_view 2 0 n in
@@ -232,7 +230,7 @@ module _ (t s x given : List ℕ) (b : Bytes s) (e : Reads 0 x given t s) where
   pub write_again : Again t s → WritesAs t s x s
   write_again a = written_as s a.again
 
-  pub confirm-written : ConfirmAgain t s → (n : ℕ) → read_body (groups_in t) s ≡ body.Confirm n → ConfirmWritten t s x
+  pub confirm-written : ConfirmAgain t s → (n : ℕ) → read_body (groups_in t) s ≡ Some (body.Confirm n) → ConfirmWritten t s x
   confirm-written a n r =
       let h = (confirm-shape (groups_in t) s n r).total in
       let l : length (take 40 s) ≡ 40 = length-take-le 40 s h in
@@ -268,9 +266,9 @@ number-some why.Group = omega arith
 number-some why.Target = omega arith
 
 -- a writer that returned 0 wrote
-zero-wrote : (w : Wrote) (m given : ℕ) → 0 ≡ wrote_number w → m ≡ written_left w given → w ≡ wrote.Length m
-zero-wrote (wrote.Length n) m given e c = ap wrote.Length (sym c)
-zero-wrote (wrote.Refused c) m given e k = absurd (omega (arith, number-some c))
+zero-wrote : (w : Result ℕ Refusal) (m given : ℕ) → 0 ≡ wrote_number w → m ≡ written_left w given → w ≡ Ok m
+zero-wrote (Ok n) m given e c = ap Ok (sym c)
+zero-wrote (Err c) m given e k = absurd (omega (arith, number-some c))
 
 -- a body that has these parts is read as them
 module _ (p : Parts) (b : Numbers p) (u s : List ℕ) (k : sound u ≡ true) (e : parts_in (groups_in u) s ≡ p) where

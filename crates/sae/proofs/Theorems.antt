@@ -6,9 +6,7 @@ use mathlib.Core.List.{List}
 use Prim.Native.Nat.{ℕ}
 use native.Mathlib.Omega.{arith}
 use lib.ListN.{length}
-use Rattle.std.specs.Prelude.{if◌then◌else◌}
-use Rattle.octets.specs.declared.Found.{Found}
-use Rattle.octets.specs.declared.Found.TheVariants as found
+use Rattle.std.specs.Prelude.{if◌then◌else◌, Option, Some, None, Result, Ok, Err}
 use Rattle.record.specs.Layout.{groups_of}
 use Rattle.record.specs.SettingsOctets.{settings_of, reserved_zero}
 use Rattle.rules.specs.Book.{◌is◌, Step}
@@ -17,21 +15,14 @@ use Rattle.record.specs.declared.Form.{Form}
 use Rattle.table.specs.Table.{Table, decode_table, sound}
 use Rattle.initial.specs.Initial.{slots_for, initial_ok, initial_table}
 use Rattle.good_links.specs.GoodLinks.{filled, fills}
-use Rattle.answers.specs.declared.Answer.{Answer}
-use Rattle.answers.specs.declared.Outcome.{Outcome}
-use Rattle.answers.specs.declared.Outcome.TheVariants as outcome
-use Rattle.answers.specs.declared.Refusal.{Refusal}
-use Rattle.answers.specs.declared.Refusal.TheVariants as why
-use Rattle.answers.specs.declared.Turn.{Turn}
-use Rattle.answers.specs.declared.Turn.TheVariants as turn
-use Rattle.answers.specs.Answers.{Left, ends, returned, refused, none_due, refuse, said, quiet, seating, finish_at, finishes, turned}
+use Rattle.answers.specs.Outcome.{Outcome}
+use Rattle.answers.specs.Outcome as outcome
+use Rattle.causes.specs.declared.Refusal.{Refusal}
+use Rattle.causes.specs.declared.Refusal.TheVariants as why
+use Rattle.answers.specs.Answers.{Told, Left, ends, returned, refused, none_due, refuse, said, quiet, seating, finish_at, finishes, turned}
 use Rattle.calls.specs.Calls.{initializes, initializes_from, initiates, kills, receives, due_slot, expires_by, expires}
-use Rattle.writer.specs.declared.Wrote.{Wrote}
-use Rattle.writer.specs.declared.Wrote.TheVariants as wrote
 use Rattle.writer.specs.Writer.{LeftOut, writes_parts, writes_record}
 use Rattle.writer.proofs.Theorems.{parts-refused, record-refused}
-use Rattle.lookups.specs.declared.Asked.{Asked}
-use Rattle.lookups.specs.declared.Asked.TheVariants as asked
 use Rattle.moves.specs.declared.Direction.{Direction}
 use Rattle.moves.specs.Moves.{source_form, target_form, moved, SameContents, is_of, hindered, hindrance, fitting, Moved, refuse_move, moves}
 use Rattle.sae.specs.Interface.{answer_left, Returns, read_number, read_parts, parts_octets, Reads, wrote_number, written_left, Writes, Asks, fill_number, Fills, MovesTo}
@@ -42,22 +33,22 @@ use Rattle.sae.specs.Interface.{answer_left, Returns, read_number, read_parts, p
 pub record Refuses (t : List ℕ) (l : Left) : Type 0 where
   pub leaves : (c : Refusal) → l.answer.outcome ≡ outcome.Refused c → l.table ≡ t
 
-unchanged : (t : List ℕ) (a : Answer) → Refuses t (record { answer = a; table = t })
+unchanged : (t : List ℕ) (a : Told) → Refuses t (record { answer = a; table = t })
 unchanged t a = record { leaves = λ c e. refl }
 
-finish-refuses : (t a : List ℕ) (f : Found) (s : Step) → Refuses t (finishes t f s a)
+finish-refuses : (t a : List ℕ) (f : Option ℕ) (s : Step) → Refuses t (finishes t f s a)
 unfolding finishes finish_at ends said
 finish-refuses t a f s = go s.refused (seating (decode_table t) f)
   where
-    go : (b : Bool) (x : Found) → Refuses t (if b then refuse t why.Full else finish_at x t s a)
+    go : (b : Bool) (x : Option ℕ) → Refuses t (if b then refuse t why.Full else finish_at x t s a)
     go true x = unchanged t _
-    go false (found.At k) = record { leaves = λ c e. let z : ◌≡◌ {A = ℕ} 0 1 = cc in absurd (omega arith) }
-    go false found.Nothing = record { leaves = λ c e. let z : ◌≡◌ {A = ℕ} 0 1 = cc in absurd (omega arith) }
+    go false (Some k) = record { leaves = λ c e. let z : ◌≡◌ {A = ℕ} 0 1 = cc in absurd (omega arith) }
+    go false None = record { leaves = λ c e. let z : ◌≡◌ {A = ℕ} 0 1 = cc in absurd (omega arith) }
 
-turned-refuses : (w : Turn) (g : Found → Step) (t a : List ℕ) → Refuses t (turned w g t a)
+turned-refuses : (w : Result (Option ℕ) Refusal) (g : Option ℕ → Step) (t a : List ℕ) → Refuses t (turned w g t a)
 unfolding turned
-turned-refuses (turn.Refused c) g t a = unchanged t _
-turned-refuses (turn.Go f) g t a = finish-refuses t a f (g f)
+turned-refuses (Err c) g t a = unchanged t _
+turned-refuses (Ok f) g t a = finish-refuses t a f (g f)
 
 pub initialize-refuses : (f : Form) (t own s : List ℕ) → Refuses t (initializes_from f t own s)
 unfolding initializes_from initializes ends quiet
@@ -80,16 +71,16 @@ pub receive-refuses : (t a : List ℕ) (time : ℕ) (frame fresh expected : List
 unfolding receives
 receive-refuses t a time frame fresh expected verdict = turned-refuses _ _ t a
 
-due-refuses : (t : List ℕ) (time : ℕ) (f : Found) → Refuses t (expires_by f t time)
+due-refuses : (t : List ℕ) (time : ℕ) (f : Option ℕ) → Refuses t (expires_by f t time)
 unfolding expires_by ends none_due
-due-refuses t time found.Nothing = record { leaves = λ c e. let z : ◌≡◌ {A = ℕ} 0 1 = cc in absurd (omega arith) }
-due-refuses t time (found.At k) = finish-refuses t _ (found.At k) _
+due-refuses t time None = record { leaves = λ c e. let z : ◌≡◌ {A = ℕ} 0 1 = cc in absurd (omega arith) }
+due-refuses t time (Some k) = finish-refuses t _ (Some k) _
 
 pub expire-refuses : (t : List ℕ) (time : ℕ) → Refuses t (expires t time)
 unfolding expires
 expire-refuses t time = go (sound t) (due_slot (decode_table t) time)
   where
-    go : (b : Bool) (f : Found) → Refuses t (if b then expires_by f t time else record { answer = refused why.Unsound; table = t })
+    go : (b : Bool) (f : Option ℕ) → Refuses t (if b then expires_by f t time else record { answer = refused why.Unsound; table = t })
     go true f = due-refuses t time f
     go false f = unchanged t _
 
@@ -125,12 +116,12 @@ pub record Unwritten (out left : List ℕ) (given written : ℕ) : Type 0 where
   pub buffer : left ≡ out
   pub length_kept : written ≡ given
 
-write-refused : (l : LeftOut) (out left : List ℕ) (r written given : ℕ) → ((c : Refusal) → l.answer ≡ wrote.Refused c → l.out ≡ out) → Writes r left written given l → (r ≡ 0 → ⊥) → Unwritten out left given written
+write-refused : (l : LeftOut) (out left : List ℕ) (r written given : ℕ) → ((c : Refusal) → l.answer ≡ Err c → l.out ≡ out) → Writes r left written given l → (r ≡ 0 → ⊥) → Unwritten out left given written
 write-refused l out left r written given f e d = go l.answer refl
   where
-    go : (w : Wrote) → l.answer ≡ w → Unwritten out left given written
-    go (wrote.Length n) q = absurd (d (e.returns ∙ ap wrote_number q))
-    go (wrote.Refused c) q = record { buffer = e.leaves ∙ f c q; length_kept = e.counts ∙ ap (λ (w : Wrote). written_left w given) q }
+    go : (w : Result ℕ Refusal) → l.answer ≡ w → Unwritten out left given written
+    go (Ok n) q = absurd (d (e.returns ∙ ap wrote_number q))
+    go (Err c) q = record { buffer = e.leaves ∙ f c q; length_kept = e.counts ∙ ap (λ (w : Result ℕ Refusal). written_left w given) q }
 
 pub write-parts-refused : (t : List ℕ) (q x g n : ℕ) (token rest out left : List ℕ) (r written given : ℕ) → Writes r left written given (writes_parts t q x g n token rest out) → (r ≡ 0 → ⊥) → Unwritten out left given written
 write-parts-refused t q x g n token rest out left r written given e d = write-refused _ out left r written given (parts-refused t q x g n token rest out) e d
@@ -140,9 +131,9 @@ write-record-refused t a q value out left r written given e d = write-refused _ 
 
 -- ---- the lookups
 
-pub ask-refused : (a : Asked) (r left given : ℕ) → Asks r left given a → (r ≡ 0 → ⊥) → left ≡ given
-ask-refused (asked.Number n) r left given e d = absurd (d e.returns)
-ask-refused (asked.Refused c) r left given e d = e.leaves
+pub ask-refused : (a : Result ℕ Refusal) (r left given : ℕ) → Asks r left given a → (r ≡ 0 → ⊥) → left ≡ given
+ask-refused (Ok n) r left given e d = absurd (d e.returns)
+ask-refused (Err c) r left given e d = e.leaves
 
 -- ---- the fill
 

@@ -1,5 +1,6 @@
 -- The octets of the C interface: answers and parts out; the settings' stand in record. Every field is little-endian.
-use Rattle.std.specs.Prelude.{◌≡◌, Bool, true, false, ◌&&◌, ◌||◌, List, ◌++◌, ℕ, ◌+◌, ◌≤◌, length, replicate, if◌then◌else◌}
+use Rattle.std.specs.Prelude.{◌≡◌, Bool, true, false, ◌&&◌, ◌||◌, List, ◌++◌, ℕ, ◌+◌, ◌≤◌, length, replicate, if◌then◌else◌, Result, Ok, Err}
+use Rattle.causes.specs.Causes.{number}
 use Rattle.octets.specs.Octets.{oct}
 use Rattle.frame.specs.Frame.{elements_of}
 use Rattle.record.specs.Layout.{groups_of}
@@ -11,18 +12,14 @@ use Rattle.message.specs.declared.View.{View}
 use Rattle.message.specs.View.{view}
 use Rattle.table.specs.Table.{decode_table, sound}
 use Rattle.good_links.specs.GoodLinks.{filled, fills}
-use Rattle.answers.specs.declared.Outcome.{Outcome}
-use Rattle.answers.specs.declared.Outcome.TheVariants as outcome
-use Rattle.answers.specs.declared.Answer.{Answer}
-use Rattle.answers.specs.declared.Refusal.TheVariants as why
-use Rattle.answers.specs.Answers.{Left, returned, number}
-use Rattle.writer.specs.declared.Wrote.{Wrote}
-use Rattle.writer.specs.declared.Wrote.TheVariants as wrote
+use Rattle.answers.specs.Outcome.{Outcome}
+use Rattle.answers.specs.Outcome as outcome
+use Rattle.causes.specs.declared.Refusal.TheVariants as why
+use Rattle.answers.specs.Answers.{Told, Left, returned}
 use Rattle.writer.specs.Writer.{LeftOut}
-use Rattle.lookups.specs.declared.Asked.{Asked}
-use Rattle.lookups.specs.declared.Asked.TheVariants as asked
 use Rattle.lookups.specs.Lookups.{asked_returned}
 use Rattle.moves.specs.Moves.{Moved}
+use Rattle.causes.specs.declared.Refusal.{Refusal}
 
 -- ---- answer, 28 octets: 0 none due (1, else 0); 1 event; 2–3 fresh group used; 4–9 address; 10 number of frames; 11 zero; 12–19 and 20–27 the frames
 
@@ -44,7 +41,7 @@ frames_octets frames.None = framed_octets 0 (replicate 8 0) (replicate 8 0)
 frames_octets (frames.One f) = framed_octets 1 (frame_octets f) (replicate 8 0)
 frames_octets (frames.Two f g) = framed_octets 2 (frame_octets f) (frame_octets g)
 
-unfoldable pub answer_octets : Answer → List ℕ
+unfoldable pub answer_octets : Told → List ℕ
 answer_octets a = oct 1 (none_due_flag a.outcome) ++ (oct 1 (event_number a.event) ++ (oct 2 a.afresh ++ (a.address ++ frames_octets a.frames)))
 
 abbrev pub is_refused : Outcome → Bool
@@ -53,7 +50,7 @@ is_refused outcome.NoneDue = false
 is_refused (outcome.Refused c) = true
 
 -- "on a refusal every lent octet is as it was"
-unfoldable pub answer_left : Answer → List ℕ → List ℕ
+unfoldable pub answer_left : Told → List ℕ → List ℕ
 answer_left a old = if is_refused a.outcome then old else answer_octets a
 
 -- a call's whole outcome: the number returned, the table and the answer at exit
@@ -105,17 +102,17 @@ pub record Reads (r : ℕ) (parts : List ℕ) (given t frame : List ℕ) : Type 
 
 -- ---- a writer's whole outcome: the number returned, the buffer and the length written at exit
 
-abbrev pub wrote_number : Wrote → ℕ
-wrote_number (wrote.Length n) = 0
-wrote_number (wrote.Refused c) = number c
+abbrev pub wrote_number : Result ℕ Refusal → ℕ
+wrote_number (Ok n) = 0
+wrote_number (Err c) = number c
 
-abbrev pub written_left : Wrote → ℕ → ℕ
-written_left (wrote.Length n) old = n
-written_left (wrote.Refused c) old = old
+abbrev pub written_left : Result ℕ Refusal → ℕ → ℕ
+written_left (Ok n) old = n
+written_left (Err c) old = old
 
 -- a frame has at most 8 + 256 octets and those of a commit, 198 as a value has it
-pub record Counted (w : Wrote) : Type 0 where
-  pub most : (n : ℕ) → w ≡ wrote.Length n → n ≤ 462
+pub record Counted (w : Result ℕ Refusal) : Type 0 where
+  pub most : (n : ℕ) → w ≡ Ok n → n ≤ 462
 
 pub record Writes (r : ℕ) (out : List ℕ) (written given : ℕ) (l : LeftOut) : Type 0 where
   pub returns : r ≡ wrote_number l.answer
@@ -124,11 +121,11 @@ pub record Writes (r : ℕ) (out : List ℕ) (written given : ℕ) (l : LeftOut)
 
 -- ---- a lookup's whole outcome: the number returned, and the number asked for at exit
 
-abbrev pub asked_left : Asked → ℕ → ℕ
-asked_left (asked.Number n) old = n
-asked_left (asked.Refused c) old = old
+abbrev pub asked_left : Result ℕ Refusal → ℕ → ℕ
+asked_left (Ok n) old = n
+asked_left (Err c) old = old
 
-pub record Asks (r left given : ℕ) (a : Asked) : Type 0 where
+pub record Asks (r left given : ℕ) (a : Result ℕ Refusal) : Type 0 where
   pub returns : r ≡ asked_returned a
   pub leaves : left ≡ asked_left a given
 

@@ -1,5 +1,5 @@
 -- "What is written reads back; a status 0 Confirm or supported Commit, once read, is written again as the same octets", through the 20 octets of parts.
-use Rattle.std.specs.Prelude.{◌≡◌, true, List, [], ℕ, ◌≤◌, length, take, if◌then◌else◌}
+use Rattle.std.specs.Prelude.{◌≡◌, true, List, [], ℕ, ◌≤◌, length, take, if◌then◌else◌, Some}
 use Rattle.octets.specs.Octets.{part, put, num}
 use Rattle.groups.specs.Groups.{commit_length}
 use Rattle.frame.specs.Frame.{elements_of, read_body}
@@ -39,7 +39,7 @@ pub record PointsBehind (s x : List ℕ) : Type 0 where
 pub record Points (t s x : List ℕ) : Type 0 where
   pub sound : sound t ≡ true
   pub parts : pointed_out x s ≡ parts_in (groups_in t) s
-  pub behind : (n : ℕ) → read_body (groups_in t) s ≡ body.Confirm n → PointsBehind s x
+  pub behind : (n : ℕ) → read_body (groups_in t) s ≡ Some (body.Confirm n) → PointsBehind s x
 
 -- the writer, handed what x points out in s and room for u, returns 0, the length of u and the octets of u; octets past them stay
 pub record Same (u out : List ℕ) (r : ℕ) (left : List ℕ) (written : ℕ) : Type 0 where

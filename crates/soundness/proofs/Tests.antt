@@ -1,4 +1,5 @@
 -- What the functions show: tests on octets are the tests on the values that the octets say.
+use Rattle.std.specs.Prelude.{Option, Some, None}
 use mathlib.Core.Path.{◌≡◌, refl, sym, ap, ◌∙◌}
 use mathlib.Core.Bool.{Bool, true, false, not, ◌&&◌, ◌||◌}
 use mathlib.Core.List.{List, [], ◌∷◌}
@@ -11,8 +12,6 @@ use lib.ListN.{length, take, drop, get_or}
 use borrow.Author.Tests.{eq-eqb, ne_eqb, le-leb, lt-leb, lt-ltb, le-ltb}
 use Rattle.octets.specs.Octets.{part, num, all_zero, Bytes}
 use Rattle.octets.specs.Scan.{all_below}
-use Rattle.octets.specs.declared.Found.{Found}
-use Rattle.octets.specs.declared.Found.TheVariants.{At, Nothing}
 use Rattle.octets.proofs.Laws.{part-all}
 use Rattle.groups.specs.Groups.{width, listable, listed, place, index_of, marked, stored}
 use Rattle.groups.proofs.Laws.{stored-zeros, stored-zero, listed-place}
@@ -150,17 +149,17 @@ groups-else f (suc n) gs h p q r = groups-more f (suc n) gs (omega arith)
 -- ---- a listed group, the marks and the rest of a run in Committed
 
 -- the marks by the place of the run's group
-module _ (gs : List ℕ) (r : Run) (rejected group : ℕ) (f : Found) (k : rejected ≡ r.rejected) (g : group ≡ r.group) (e : f ≡ place gs group) where
-  pub marks-at : (i past : ℕ) (own : Bool) → f ≡ At i → own ≡ marked rejected i → past ≡ rejected / 2 ^ length gs
+module _ (gs : List ℕ) (r : Run) (rejected group : ℕ) (f : Option ℕ) (k : rejected ≡ r.rejected) (g : group ≡ r.group) (e : f ≡ place gs group) where
+  pub marks-at : (i past : ℕ) (own : Bool) → f ≡ Some i → own ≡ marked rejected i → past ≡ rejected / 2 ^ length gs
       → (eqb past 0 && not own) ≡ (listed gs r.group && rejected_ok gs r)
   unfolding rejected_ok index_of
   marks-at i past own q o p =
-      let z : place gs r.group ≡ At i = ap (place gs) (sym g) ∙ sym e ∙ q in
+      let z : place gs r.group ≡ Some i = ap (place gs) (sym g) ∙ sym e ∙ q in
       rw (listed-place gs r.group, z, p, o, k, none-past r.rejected (length gs)) refl
 
-  pub marks-none : f ≡ Nothing → false ≡ (listed gs r.group && rejected_ok gs r)
+  pub marks-none : f ≡ None → false ≡ (listed gs r.group && rejected_ok gs r)
   marks-none q =
-      let z : place gs r.group ≡ Nothing = ap (place gs) (sym g) ∙ sym e ∙ q in
+      let z : place gs r.group ≡ None = ap (place gs) (sym g) ∙ sym e ∙ q in
       sym (rw (listed-place gs r.group, z) refl)
 
 -- the group's test stands before the others'

@@ -1,4 +1,5 @@
 -- The form is kept: a good record placed in a sound table leaves a sound table, and every other record as it was.
+use Rattle.std.specs.Prelude.{Option, Some, None}
 use mathlib.Core.Path.{◌≡◌, refl, sym, ap, ◌∙◌, subst}
 use mathlib.Core.Logic.{◌⊎◌, inl, inr}
 use mathlib.Core.Bool.{Bool, true, false, not, ◌||◌}
@@ -12,8 +13,6 @@ use lib.Seq.{set-get_or}
 use borrow.Author.Tests.{eqb-true, eq-eqb, not-true}
 use Rattle.octets.specs.Octets.{num, Bytes, same_address}
 use Rattle.octets.specs.Scan.{all_below, first_below}
-use Rattle.octets.specs.declared.Found.{Found}
-use Rattle.octets.specs.declared.Found.TheVariants.{At, Nothing}
 use Rattle.octets.proofs.Scan.{clash, cases, and_left, and_right, and_both, all_true, all_of, first-none, first_more, first-ext, first-hit}
 use Rattle.groups.specs.Groups.{width}
 use Rattle.record.specs.declared.Peer.{Peer}
@@ -61,9 +60,9 @@ or-second : (a b : Bool) → (not a || b) ≡ true → a ≡ true → b ≡ true
 or-second true b e u = e
 or-second false b e u = absurd (clash u refl)
 
-first-empty : (f : ℕ → Bool) (n : ℕ) → ((k : ℕ) → k < n → f k ≡ false) → first_below f n ≡ Nothing
+first-empty : (f : ℕ → Bool) (n : ℕ) → ((k : ℕ) → k < n → f k ≡ false) → first_below f n ≡ None
 first-empty f zero h = first-none f
-first-empty f (suc n) h = subst (λ (m : ℕ). first_below f m ≡ Nothing) (add-one n) (first_more f n (first-empty f n (λ k l. h k (omega arith))) (h n (omega arith)))
+first-empty f (suc n) h = subst (λ (m : ℕ). first_below f m ≡ None) (add-one n) (first_more f n (first-empty f n (λ k l. h k (omega arith))) (h n (omega arith)))
 
 below-clear : (T : Table) → addresses_ok T ≡ true → (i j : ℕ) → i < j → j < slots T → in_use (slot T j) ≡ true → belongs (slot T j).address (slot T i) ≡ false
 unfolding addresses_ok alone
@@ -226,7 +225,7 @@ placed-others t k j p b s h f g d =
 -- ---- by address
 
 -- DISTINCT ADDRESSES make the answer of a search the only one
-pub found-only : (T : Table) (a : List ℕ) (k i : ℕ) → Form T → finds T a ≡ At k → i < slots T → belongs a (slot T i) ≡ true → i ≡ k
+pub found-only : (T : Table) (a : List ℕ) (k i : ℕ) → Form T → finds T a ≡ Some k → i < slots T → belongs a (slot T i) ≡ true → i ≡ k
 unfolding belongs
 found-only T a k i F e h u = elim (ℕ_discrete i k) [
   | yes q ↦ q
@@ -242,12 +241,12 @@ unfolding finds
 finds-ext T k p b h =
     ap (first_below (λ j. belongs b (slot (placed T k p) j))) (placed-slots T k p) ∙ first-ext (λ j. belongs b (slot (placed T k p) j)) (λ j. belongs b (slot T j)) (slots T) (λ j l. h j)
 
-look-by : (T : Table) (k : ℕ) (p : Peer) (b : List ℕ) → k < length T.peers → belongs b (slot T k) ≡ false → (f : Found) → finds T b ≡ f → look_by (placed T k p) (finds T b) ≡ look_by T (finds T b)
+look-by : (T : Table) (k : ℕ) (p : Peer) (b : List ℕ) → k < length T.peers → belongs b (slot T k) ≡ false → (f : Option ℕ) → finds T b ≡ f → look_by (placed T k p) (finds T b) ≡ look_by T (finds T b)
 unfolding look_by
-look-by T k p b l n (At j) e =
+look-by T k p b l n (Some j) e =
     let d : j ≡ k → ⊥ = λ q. clash (rw q at (found_below T b j e).1) n in
     rw e (placed-other T k p l j d)
-look-by T k p b l n Nothing e = rw e
+look-by T k p b l n None e = rw e
 
 -- another address finds what it found
 pub look-other : (T : Table) (k : ℕ) (p : Peer) (b : List ℕ) → k < length T.peers → belongs b (slot T k) ≡ false → belongs b p ≡ false → look (placed T k p) b ≡ look T b
@@ -263,12 +262,12 @@ look-other T k p b l n m = ap (look_by (placed T k p)) same ∙ go (finds T b) r
     same : finds (placed T k p) b ≡ finds T b
     same = finds-ext T k p b at
 
-    go : (f : Found) → finds T b ≡ f → look_by (placed T k p) (finds T b) ≡ look_by T (finds T b)
+    go : (f : Option ℕ) → finds T b ≡ f → look_by (placed T k p) (finds T b) ≡ look_by T (finds T b)
     go f e = look-by T k p b l n f e
 
 -- and the address itself finds the record placed
 finds-same : (T : Table) (k : ℕ) (p : Peer) (a : List ℕ) → k < length T.peers → k < slots T → ((i : ℕ) → i < slots T → (i ≡ k → ⊥) → belongs a (slot T i) ≡ false)
-    → belongs a p ≡ true → At k ≡ finds (placed T k p) a
+    → belongs a p ≡ true → Some k ≡ finds (placed T k p) a
 unfolding finds
 finds-same T k p a l h A u =
     first-hit (λ j. belongs a (slot (placed T k p) j)) (slots (placed T k p)) k (rw (placed-slots T k p) h)

@@ -12,10 +12,8 @@ use lib.ListN.{length}
 use lib.Seq.{get_or-set_same, get_or-set_other}
 use borrow.Author.Tests.{eqb-true, leb-true, eq-eqb, le-leb, lt-leb, ne_eqb, not-true, not-false}
 use Rattle.octets.specs.Octets.{num, same_address}
-use Rattle.std.specs.Prelude.{if◌then◌else◌}
+use Rattle.std.specs.Prelude.{if◌then◌else◌, Option, Some, None, Result, Ok, Err}
 use Rattle.octets.specs.Scan.{all_below, count_below, first_below, last_below, bit}
-use Rattle.octets.specs.declared.Found.{Found}
-use Rattle.octets.specs.declared.Found.TheVariants.{At, Nothing}
 use Rattle.octets.proofs.Scan.{cases, clash, and_left, and_right, and_both, all_true, all_of, first-at, first-nothing, last-at, count-but, count-le, bit_le}
 use Rattle.record.specs.declared.Peer.{Peer}
 use Rattle.record.specs.declared.Counts.{Counts}
@@ -25,11 +23,11 @@ use Rattle.record.specs.Layout.{width_in, record_size, record_at, groups_of}
 use Rattle.record.proofs.Laws.{record-below}
 use Rattle.soundness.specs.Soundness.{usable, header_ok, high_sync, peer_ok}
 use Rattle.soundness.proofs.Laws.{header-groups, header-high, header-count, header-slots}
-use Rattle.table.specs.Table.{Table, width_of, decode_table, slot, slots, in_use, is_open, is_good, belongs, alone, slots_ok, addresses_ok, counts_ok, sound, used_count, open_count, good_count, counts_of, finds, free_slot, entry, found_entry, with_peer, standing_of, Changed, Ready, Whole, Reaches, Reached, Sized, Looked, Enters}
+use Rattle.table.specs.Table.{Table, width_of, decode_table, slot, slots, in_use, is_open, is_good, belongs, alone, slots_ok, addresses_ok, counts_ok, sound, used_count, open_count, good_count, counts_of, finds, free_slot, entry, checked, entered, entering, with_peer, standing_of, Changed, Ready, Whole, Reaches, Reached, Sized, Looked, Enters}
 use Rattle.table.specs.declared.Entrance.{Entrance}
+use Rattle.causes.specs.declared.Refusal.{Refusal}
+use Rattle.causes.specs.declared.Refusal.TheVariants as why
 use Rattle.table.specs.declared.Standing.{Standing}
-use Rattle.table.specs.declared.Entry.{Entry}
-use Rattle.table.specs.declared.Entry.TheVariants as entry-is
 use Rattle.table.proofs.Octets.{many, length-peers}
 
 -- the counts are those of the records, place by place
@@ -224,40 +222,14 @@ body-law t own gs h n high s a c w eo eg eh es ea ec = ap (λ (x : Bool). x && (
     go (inr z) = rw (ec, z) (and-false a ∙ sym (and-false (addresses_ok (decode_table t))))
 
 -- what `find`, `free_slot` and `enter` show
-pub find-law : (t : List ℕ) (n : ℕ) (a : List ℕ) (x : ℕ) (r : Found) → n ≡ slots (decode_table t) → x ≡ num a
+pub find-law : (t : List ℕ) (n : ℕ) (a : List ℕ) (x : ℕ) (r : Option ℕ) → n ≡ slots (decode_table t) → x ≡ num a
     → r ≡ first_below (λ k. in_use (slot (decode_table t) k) && eqb (num (slot (decode_table t) k).address) x) n → r ≡ finds (decode_table t) a
 unfolding finds belongs same_address
 find-law t n a x r e p q = q ∙ rw (e, p) refl
 
-pub free_law : (t : List ℕ) (n : ℕ) (r : Found) → n ≡ slots (decode_table t) → r ≡ last_below (λ k. eqb (slot (decode_table t) k).used 0) n → r ≡ free_slot (decode_table t)
+pub free_law : (t : List ℕ) (n : ℕ) (r : Option ℕ) → n ≡ slots (decode_table t) → r ≡ last_below (λ k. eqb (slot (decode_table t) k).used 0) n → r ≡ free_slot (decode_table t)
 unfolding free_slot
 free_law t n r e q = rw e at q
-
-module _ (t a : List ℕ) where
-  pub enter-unsound : (b : Bool) → b ≡ sound t → not b ≡ true → entry-is.Unsound ≡ entry t a
-  unfolding entry
-  enter-unsound b e q = rw (← e, q)
-
-  pub enter-unusable : (b u : Bool) (own : List ℕ) → b ≡ sound t → not b ≡ false → own ≡ (decode_table t).header.own → u ≡ usable own a → not u ≡ true → entry-is.Unusable ≡ entry t a
-  unfolding entry
-  enter-unusable b u own e q eo eu w = rw (← e, q, ← eo, ← eu, w)
-
-  pub enter-found : (b u : Bool) (own : List ℕ) (f : Found) → b ≡ sound t → not b ≡ false → own ≡ (decode_table t).header.own → u ≡ usable own a → not u ≡ false
-      → f ≡ finds (decode_table t) a → found_entry f ≡ entry t a
-  unfolding entry
-  enter-found b u own f e q eo eu w ef =
-      let g : not (usable (decode_table t).header.own a) ≡ false = ap (λ (o : List ℕ). not (usable o a)) (sym eo) ∙ ap not (sym eu) ∙ w in
-      rw (← e, q, g) (ap found_entry ef)
-
-  pub enter-at : (b u : Bool) (own : List ℕ) (f : Found) (k : ℕ) → b ≡ sound t → not b ≡ false → own ≡ (decode_table t).header.own → u ≡ usable own a → not u ≡ false
-      → f ≡ finds (decode_table t) a → f ≡ At k → entry-is.At k ≡ entry t a
-  unfolding found_entry
-  enter-at b u own f k e q eo eu w ef m = ap found_entry (sym m) ∙ enter-found b u own f e q eo eu w ef
-
-  pub enter-absent : (b u : Bool) (own : List ℕ) (f : Found) → b ≡ sound t → not b ≡ false → own ≡ (decode_table t).header.own → u ≡ usable own a → not u ≡ false
-      → f ≡ finds (decode_table t) a → f ≡ Nothing → entry-is.Absent ≡ entry t a
-  unfolding found_entry
-  enter-absent b u own f e q eo eu w ef m = ap found_entry (sym m) ∙ enter-found b u own f e q eo eu w ef
 
 -- ---- a record stored
 
@@ -407,67 +379,105 @@ sound-by t b e q = sym e ∙ not-false b q
 
 -- what `entry` says
 module _ where
-  abbrev went : Bool → Bool → Found → Entry
-  went b u f = if not b then entry-is.Unsound else if not u then entry-is.Unusable else found_entry f
+  abbrev went : Bool → Bool → Option ℕ → Result (Option ℕ) Refusal
+  went b u f = if not b then Err why.Unsound else if not u then Err why.Address else Ok f
 
-  went-at : (b u : Bool) (f : Found) (k : ℕ) → went b u f ≡ entry-is.At k → (b ≡ true) × ((u ≡ true) × (f ≡ At k))
-  unfolding found_entry
-  went-at false u f k e = let z : ◌≡◌ {A = ℕ} 0 1 = cc in absurd (omega arith)
-  went-at true false f k e = let z : ◌≡◌ {A = ℕ} 0 1 = cc in absurd (omega arith)
-  went-at true true (At j) k e = let q : j ≡ k = cc in (refl, (refl, ap At q))
-  went-at true true Nothing k e = let z : ◌≡◌ {A = ℕ} 0 1 = cc in absurd (omega arith)
+  went-on : (b u : Bool) (f g : Option ℕ) → went b u f ≡ Ok g → (b ≡ true) × ((u ≡ true) × (f ≡ g))
+  went-on false u f g e = let z : ◌≡◌ {A = ℕ} 0 1 = cc in absurd (omega arith)
+  went-on true false f g e = let z : ◌≡◌ {A = ℕ} 0 1 = cc in absurd (omega arith)
+  went-on true true f g e = let q : f ≡ g = cc in (refl, (refl, q))
 
-  went-absent : (b u : Bool) (f : Found) → went b u f ≡ entry-is.Absent → (b ≡ true) × ((u ≡ true) × (f ≡ Nothing))
-  unfolding found_entry
-  went-absent false u f e = let z : ◌≡◌ {A = ℕ} 0 1 = cc in absurd (omega arith)
-  went-absent true false f e = let z : ◌≡◌ {A = ℕ} 0 1 = cc in absurd (omega arith)
-  went-absent true true (At j) e = let z : ◌≡◌ {A = ℕ} 0 1 = cc in absurd (omega arith)
-  went-absent true true Nothing e = (refl, (refl, refl))
+pub entry-found : (t a : List ℕ) (f : Option ℕ) → entry t a ≡ Ok f → (sound t ≡ true) × ((usable (decode_table t).header.own a ≡ true) × (finds (decode_table t) a ≡ f))
+unfolding entry
+entry-found t a f e = went-on (sound t) (usable (decode_table t).header.own a) (finds (decode_table t) a) f e
 
 -- ---- what a look at the whole table found
 
-module _ (t : List ℕ) (whole : Bool) (h : Header) (L : Looked t whole h) where
-  pub looked-sound : not whole ≡ false → sound t ≡ true
-  looked-sound q = sound-by t whole L.right q
+pub checked-whole : (t : List ℕ) (b : Bool) (h : Header) → b ≡ sound t → not b ≡ false → h ≡ (decode_table t).header → Ok h ≡ checked t
+unfolding checked
+checked-whole t b h e q g = rw (sym e ∙ not-false b q, g) refl
 
-  pub looked-header : not whole ≡ false → h ≡ (decode_table t).header
-  looked-header q = L.header (looked-sound q)
-
-  pub looked-own : not whole ≡ false → h.own ≡ (decode_table t).header.own
-  looked-own q = ap (λ (g : Header). g.own) (looked-header q)
-
-  pub looked-sized : (w : ℕ) → not whole ≡ false → w ≡ width_in h → w ≤ width → Sized t w h.geometry.slots
-  looked-sized w q e m = sized t h w (looked-sound q) (looked-header q) e m
+pub checked-unsound : (t : List ℕ) (b : Bool) → b ≡ sound t → not b ≡ true → Err why.Unsound ≡ checked t
+unfolding checked
+checked-unsound t b e q = rw (sym e ∙ not-true b q) refl
 
 -- what the test came to
-pub looked-unsound : (t : List ℕ) (h : Header) (b : Bool) → b ≡ sound t → not b ≡ true → Looked t false h
-looked-unsound t h b e q = let z : false ≡ sound t = sym (not-true b q) ∙ e in record { right = z; header = λ s. absurd (clash s (sym z)) }
+pub looked : (t : List ℕ) (h : Header) → checked t ≡ Ok h → Looked t h
+unfolding checked
+looked t h e = go (sound t) refl e
+  where
+    go : (b : Bool) → sound t ≡ b → (if b then Ok (decode_table t).header else Err why.Unsound) ≡ Ok h → Looked t h
+    go true s q = let z : (decode_table t).header ≡ h = cc in record { whole = s; header = sym z }
+    go false s q = let z : ◌≡◌ {A = ℕ} 0 1 = cc in absurd (omega arith)
 
-pub looked-whole : (t : List ℕ) (h : Header) (b : Bool) → b ≡ sound t → not b ≡ false → h ≡ (decode_table t).header → Looked t true h
-looked-whole t h b e q g = record { right = sym (not-false b q) ∙ e; header = λ s. g }
+pub unsound : (t : List ℕ) (c : Refusal) → checked t ≡ Err c → (sound t ≡ false) × (c ≡ why.Unsound)
+unfolding checked
+unsound t c e = go (sound t) refl e
+  where
+    go : (b : Bool) → sound t ≡ b → (if b then Ok (decode_table t).header else Err why.Unsound) ≡ Err c → (sound t ≡ false) × (c ≡ why.Unsound)
+    go true s q = let z : ◌≡◌ {A = ℕ} 0 1 = cc in absurd (omega arith)
+    go false s q = let z : why.Unsound ≡ c = cc in (s, sym z)
 
-pub entered-unsound : (t a : List ℕ) (r : Entrance) (b : Bool) → r.entry ≡ entry-is.Unsound → b ≡ sound t → not b ≡ true → Enters r t a
-entered-unsound t a r b u e q = record { entry = u ∙ enter-unsound t a b e q; header = (looked-unsound t r.header b e q).header }
+module _ (t : List ℕ) (h : Header) (L : Looked t h) where
+  pub looked-own : h.own ≡ (decode_table t).header.own
+  looked-own = ap (λ (g : Header). g.own) L.header
 
-pub entry_at : (t a : List ℕ) (k : ℕ) → entry t a ≡ entry-is.At k → (sound t ≡ true) × ((usable (decode_table t).header.own a ≡ true) × (finds (decode_table t) a ≡ At k))
-unfolding entry
-entry_at t a k e = went-at (sound t) (usable (decode_table t).header.own a) (finds (decode_table t) a) k e
+  pub looked-sized : (w : ℕ) → w ≡ width_in h → w ≤ width → Sized t w h.geometry.slots
+  looked-sized w e m = sized t h w L.whole L.header e m
 
-pub entry_absent : (t a : List ℕ) → entry t a ≡ entry-is.Absent → (sound t ≡ true) × ((usable (decode_table t).header.own a ≡ true) × (finds (decode_table t) a ≡ Nothing))
-unfolding entry
-entry_absent t a e = went-absent (sound t) (usable (decode_table t).header.own a) (finds (decode_table t) a) e
+-- ---- what an address comes to
 
-pub found_below : (T : Table) (a : List ℕ) (k : ℕ) → finds T a ≡ At k → (k < slots T) × (belongs a (slot T k) ≡ true)
+module _ (t a : List ℕ) where
+  pub entering-refused : (c : Refusal) → checked t ≡ Err c → Err c ≡ entering t a
+  unfolding entering entry
+  entering-refused c e = let u = unsound t c e in rw (u.0, u.1) refl
+
+  pub entering-unusable : (h : Header) (u : Bool) → Looked t h → u ≡ usable h.own a → not u ≡ true → Err why.Address ≡ entering t a
+  unfolding entering entry
+  entering-unusable h u L e q =
+      let z : usable (decode_table t).header.own a ≡ false = ap (λ (o : List ℕ). usable o a) (sym (looked-own t h L)) ∙ sym e ∙ not-true u q in
+      rw (L.whole, z) refl
+
+  pub entering-found : (h : Header) (u : Bool) (f : Option ℕ) → Looked t h → u ≡ usable h.own a → not u ≡ false → f ≡ finds (decode_table t) a
+      → Ok (record { header = h; slot = f }) ≡ entering t a
+  unfolding entering entry
+  entering-found h u f L e q g =
+      let z : usable (decode_table t).header.own a ≡ true = ap (λ (o : List ℕ). usable o a) (sym (looked-own t h L)) ∙ sym e ∙ not-false u q in
+      rw (L.whole, z, ← g, ← L.header) refl
+
+-- what `enter` found
+pub enters : (t a : List ℕ) (e : Entrance) → entering t a ≡ Ok e → Enters e t a
+unfolding entering
+enters t a e q = go (entry t a) refl q
+  where
+    go : (x : Result (Option ℕ) Refusal) → entry t a ≡ x → entered (decode_table t).header x ≡ Ok e → Enters e t a
+    go (Err c) s q = let z : ◌≡◌ {A = ℕ} 0 1 = cc in absurd (omega arith)
+    go (Ok f) s q =
+        let z : record { header = (decode_table t).header; slot = f } ≡ e = cc in
+        record {
+          entry = s ∙ ap (λ (x : Entrance). Ok x.slot) z;
+          looked = record { whole = (entry-found t a f s).0; header = sym (ap (λ (x : Entrance). x.header) z) };
+        }
+
+pub enters-refused : (t a : List ℕ) (c : Refusal) → entering t a ≡ Err c → entry t a ≡ Err c
+unfolding entering
+enters-refused t a c q = go (entry t a) refl q
+  where
+    go : (x : Result (Option ℕ) Refusal) → entry t a ≡ x → entered (decode_table t).header x ≡ Err c → entry t a ≡ Err c
+    go (Err d) s q = let z : d ≡ c = cc in s ∙ ap Err z
+    go (Ok f) s q = let z : ◌≡◌ {A = ℕ} 0 1 = cc in absurd (omega arith)
+
+pub found_below : (T : Table) (a : List ℕ) (k : ℕ) → finds T a ≡ Some k → (k < slots T) × (belongs a (slot T k) ≡ true)
 unfolding finds
 found_below T a k e = first-at _ (slots T) k e
 
-pub free-below-law : (T : Table) (k : ℕ) → free_slot T ≡ At k → (k < slots T) × (eqb (slot T k).used 0 ≡ true)
+pub free-below-law : (T : Table) (k : ℕ) → free_slot T ≡ Some k → (k < slots T) × (eqb (slot T k).used 0 ≡ true)
 unfolding free_slot
 free-below-law T k e = last-at _ (slots T) k e
 
-pub entry_ready : (t a : List ℕ) (k : ℕ) → entry t a ≡ entry-is.At k → Ready t k
-entry_ready t a k e = let w = entry_at t a k e in ready t w.0 k (found_below (decode_table t) a k w.1.1).0
+pub entry_ready : (t a : List ℕ) (k : ℕ) → entry t a ≡ Ok (Some k) → Ready t k
+entry_ready t a k e = let w = entry-found t a (Some k) e in ready t w.0 k (found_below (decode_table t) a k w.1.1).0
 
-pub none-holds : (T : Table) (a : List ℕ) → finds T a ≡ Nothing → (i : ℕ) → i < slots T → belongs a (slot T i) ≡ false
+pub none-holds : (T : Table) (a : List ℕ) → finds T a ≡ None → (i : ℕ) → i < slots T → belongs a (slot T i) ≡ false
 unfolding finds
 none-holds T a e i h = first-nothing (λ k. belongs a (slot T k)) (slots T) e i h

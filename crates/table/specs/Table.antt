@@ -1,9 +1,7 @@
 -- The lent table as a value, a header and a list of records: its octets, its form, its searches, and a record placed in a slot.
-use Rattle.std.specs.Prelude.{◌≡◌, Bool, true, not, ◌&&◌, ◌||◌, List, [], ◌∷◌, ◌++◌, ℕ, zero, suc, ◌+◌, ◌-◌, ◌/◌, ◌≤◌, ◌<◌, eqb, leb, length, take, drop, get_or, set, if◌then◌else◌}
+use Rattle.std.specs.Prelude.{◌≡◌, Bool, true, not, ◌&&◌, ◌||◌, List, [], ◌∷◌, ◌++◌, ℕ, zero, suc, ◌+◌, ◌-◌, ◌/◌, ◌≤◌, ◌<◌, eqb, leb, length, take, drop, get_or, set, if◌then◌else◌, Option, Some, None, Result, Ok, Err}
 use Rattle.octets.specs.Octets.{num, same_address}
 use Rattle.octets.specs.Scan.{all_below, count_below, first_below, last_below, bit}
-use Rattle.octets.specs.declared.Found.{Found}
-use Rattle.octets.specs.declared.Found.TheVariants.{At, Nothing}
 use Rattle.groups.specs.Groups.{width}
 use Rattle.record.specs.declared.Peer.{Peer}
 use Rattle.record.specs.declared.Counts.{Counts}
@@ -11,10 +9,9 @@ use Rattle.record.specs.declared.Header.{Header}
 use Rattle.record.specs.Layout.{encode_peer, decode_peer, encode_header, decode_header, counted, groups_of, width_in, record_size, record_at, no_peer}
 use Rattle.soundness.specs.Soundness.{usable, header_ok, high_sync, peer_ok}
 use Rattle.table.specs.declared.Standing.{Standing}
-use Rattle.table.specs.declared.Checked.{Checked}
 use Rattle.table.specs.declared.Entrance.{Entrance}
-use Rattle.table.specs.declared.Entry.{Entry}
-use Rattle.table.specs.declared.Entry.TheVariants as entry-is
+use Rattle.causes.specs.declared.Refusal.{Refusal}
+use Rattle.causes.specs.declared.Refusal.TheVariants as why
 
 pub record Table : Type 0 where
   pub header : Header
@@ -82,17 +79,17 @@ abbrev pub counts_of : Table → Counts
 counts_of T = record { used = used_count T; opened = open_count T; good = good_count T }
 
 -- the slot of an address
-unfoldable pub finds : Table → List ℕ → Found
+unfoldable pub finds : Table → List ℕ → Option ℕ
 finds T a = first_below (λ k. belongs a (slot T k)) (slots T)
 
 -- "A new peer takes the free slot nearest the end."
-unfoldable pub free_slot : Table → Found
+unfoldable pub free_slot : Table → Option ℕ
 free_slot T = last_below (λ k. eqb (slot T k).used 0) (slots T)
 
 -- the record of an address, an empty one where it has none
-unfoldable pub look_by : Table → Found → Peer
-look_by T (At k) = slot T k
-look_by T Nothing = no_peer
+unfoldable pub look_by : Table → Option ℕ → Peer
+look_by T (Some k) = slot T k
+look_by T None = no_peer
 
 unfoldable pub look : Table → List ℕ → Peer
 look T a = look_by T (finds T a)
@@ -130,15 +127,11 @@ sound t =
 
 -- ---- what every call about an address begins with: causes 2 and 3, then the record's slot
 
-unfoldable pub found_entry : Found → Entry
-found_entry (At k) = entry-is.At k
-found_entry Nothing = entry-is.Absent
-
-unfoldable pub entry : List ℕ → List ℕ → Entry
+unfoldable pub entry : List ℕ → List ℕ → Result (Option ℕ) Refusal
 entry t a =
-    if not (sound t) then entry-is.Unsound
-    else if not (usable (decode_table t).header.own a) then entry-is.Unusable
-    else found_entry (finds (decode_table t) a)
+    if not (sound t) then Err why.Unsound
+    else if not (usable (decode_table t).header.own a) then Err why.Address
+    else Ok (finds (decode_table t) a)
 
 -- ---- a record placed in a slot, the counts made true
 
@@ -216,16 +209,24 @@ pub record Sized (t : List ℕ) (w n : ℕ) : Type 0 where
   pub number : n ≡ slots (decode_table t)
   pub reaches : Reaches t w n
 
--- whether the table is sound, and if so its header; of another table the header is left open, since nothing is done with it
-pub record Looked (t : List ℕ) (whole : Bool) (h : Header) : Type 0 where
-  pub right : whole ≡ sound t
-  pub header : sound t ≡ true → h ≡ (decode_table t).header
+-- cause 2, or the header of a sound table
+unfoldable pub checked : List ℕ → Result Header Refusal
+checked t = if sound t then Ok (decode_table t).header else Err why.Unsound
 
--- what `check` finds
-abbrev pub Checks : Checked → List ℕ → Type 0
-Checks r t = Looked t r.sound r.header
+-- causes 2 and 3, or a sound table's header and what the address comes to
+abbrev pub entered : Header → Result (Option ℕ) Refusal → Result Entrance Refusal
+entered h (Err c) = Err c
+entered h (Ok f) = Ok (record { header = h; slot = f })
 
--- what `enter` finds: what the address comes to, and a sound table's header
-pub record Enters (r : Entrance) (t a : List ℕ) : Type 0 where
-  pub entry : r.entry ≡ entry t a
-  pub header : sound t ≡ true → r.header ≡ (decode_table t).header
+unfoldable pub entering : List ℕ → List ℕ → Result Entrance Refusal
+entering t a = entered (decode_table t).header (entry t a)
+
+-- the header of a sound table
+pub record Looked (t : List ℕ) (h : Header) : Type 0 where
+  pub whole : sound t ≡ true
+  pub header : h ≡ (decode_table t).header
+
+-- what was entered: a sound table's header, and what the address comes to
+pub record Enters (e : Entrance) (t a : List ℕ) : Type 0 where
+  pub entry : entry t a ≡ Ok e.slot
+  pub looked : Looked t e.header

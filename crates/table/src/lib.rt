@@ -5,35 +5,19 @@ ghost use Rattle.std.specs.Prelude.{◌≡◌, true, ◌&&◌, ℕ, ◌+◌, ◌
 ghost use Rattle.octets.specs.Octets.{num};
 ghost use Rattle.octets.specs.Scan.{all_below, count_below, first_below, last_below, bit};
 ghost use Rattle.soundness.specs.Soundness.{peer_ok};
-ghost use Rattle.table.specs.Table.{decode_table, encode_table, slots, slot, in_use, is_open, is_good, finds, free_slot, used_count, counts_of, slots_ok, alone, addresses_ok, counts_ok, sound, entry, recounted, key, new_key, standing_of, Changed, Whole, Headed, Reaches, Reached, Sized, Looked, Checks, Enters};
+ghost use Rattle.table.specs.Table.{decode_table, encode_table, slots, slot, in_use, is_open, is_good, finds, free_slot, used_count, counts_of, slots_ok, alone, addresses_ok, counts_ok, sound, checked, entering, recounted, key, new_key, standing_of, Changed, Whole, Headed, Reaches, Reached, Sized};
 
-use octets::Found;
+use causes::Refusal;
 use record::{ADDRESS, Counts, FINISHED, HEADER, Header, RUN, STATE, USED};
 
 // A table of at most so many slots is small.
 const FEW: usize = 8;
 
-// What every call about an address begins with.
-#[derive(Clone, Copy)]
-pub enum Entry {
-    Unsound,
-    Unusable,
-    Absent,
-    At(usize),
-}
-
-// What a look at the whole table finds: whether it is sound, and its header.
-#[derive(Clone, Copy)]
-pub struct Checked {
-    pub sound: bool,
-    pub header: Header,
-}
-
-// What an address comes to, and the table's header.
+// What every call about an address begins with, in a sound table: its header, and the slot of the address's record, if it has one.
 #[derive(Clone, Copy)]
 pub struct Entrance {
-    pub entry: Entry,
     pub header: Header,
+    pub slot: Option<usize>,
 }
 
 // ---- one slot
@@ -108,34 +92,29 @@ fn has(t: &[u8], w: usize, k: usize, x: u64) -> bool
 // ---- searches and counts below a slot
 
 // The first slot below n in use with the address of the number x.
-fn find_below(t: &[u8], w: usize, n: usize, x: u64) -> Found
+fn find_below(t: &[u8], w: usize, n: usize, x: u64) -> Option<usize>
     requires { Reaches t.now w n }
     ensures { result ≡ first_below (λ k. in_use (slot (decode_table t.now) k) && eqb (num (slot (decode_table t.now) k).address) x) n }
 {
-    let mut i = 0;
-    while i < n {
-        if has(t, w, i, x) {
-            return Found::At(i);
+    for k in 0..n {
+        if has(t, w, k, x) {
+            return Some(k);
         }
-        i += 1;
     }
-    Found::Nothing
+    None
 }
 
 // The last free slot below n.
-fn free_below(t: &[u8], w: usize, n: usize) -> Found
+fn free_below(t: &[u8], w: usize, n: usize) -> Option<usize>
     requires { Reaches t.now w n }
     ensures { result ≡ last_below (λ k. eqb (slot (decode_table t.now) k).used 0) n }
 {
-    let mut i = n;
-    while 0 < i {
-        let k = i - 1;
+    for k in (0..n).rev() {
         if used_at(t, w, k) == 0 {
-            return Found::At(k);
+            return Some(k);
         }
-        i -= 1;
     }
-    Found::Nothing
+    None
 }
 
 // The counts over the slots below n, in one pass.
@@ -329,28 +308,21 @@ pub fn is_sound(t: &[u8]) -> bool
     is_whole(t, h)
 }
 
-// The test, and the header to be handed on. It is loaded once the test is done: kept over the test, each of its fields would be stored and loaded again.
-pub fn check(t: &[u8]) -> Checked
-    ensures { Checks result t.now }
+// Cause 2, and else the header, to be handed on. It is loaded once the test is done: kept over the test, each of its fields would be stored and loaded
+// again.
+pub fn check(t: &[u8]) -> Result<Header, Refusal>
+    ensures { result ≡ checked t.now }
 {
     if !is_sound(t) {
-        let none = record::no_header();
-        return Checked {
-            sound: false,
-            header: none,
-        };
+        return Err(Refusal::Unsound);
     }
-    let h = header_of(t);
-    Checked {
-        sound: true,
-        header: h,
-    }
+    Ok(header_of(t))
 }
 
 // ---- a sound table
 
 // The slot of an address.
-fn find(t: &[u8], w: usize, n: usize, a: [u8; 6]) -> Found
+fn find(t: &[u8], w: usize, n: usize, a: [u8; 6]) -> Option<usize>
     requires { Sized t.now w n }
     ensures { result ≡ finds (decode_table t.now) a }
 {
@@ -359,46 +331,25 @@ fn find(t: &[u8], w: usize, n: usize, a: [u8; 6]) -> Found
 }
 
 // "A new peer takes the free slot nearest the end."
-pub fn free_slot(t: &[u8], w: usize, n: usize) -> Found
+pub fn free_slot(t: &[u8], w: usize, n: usize) -> Option<usize>
     requires { Sized t.now w n }
     ensures { result ≡ free_slot (decode_table t.now) }
 {
     free_below(t, w, n)
 }
 
-// What an address comes to in a sound table.
-fn entry_of(t: &[u8], h: Header, a: [u8; 6]) -> Entry
-    requires { Looked t.now true h }
-    ensures { result ≡ entry t.now a }
-{
-    let own = h.own;
-    if !soundness::is_usable(own, a) {
-        return Entry::Unusable;
-    }
-    let w = record::width_of(h);
-    match find(t, w, h.geometry.slots as usize, a) {
-        Found::At(k) => Entry::At(k),
-        Found::Nothing => Entry::Absent,
-    }
-}
-
 // Causes 2 and 3, then the record's slot.
-pub fn enter(t: &[u8], a: [u8; 6]) -> Entrance
-    ensures { Enters result t.now a }
+pub fn enter(t: &[u8], a: [u8; 6]) -> Result<Entrance, Refusal>
+    ensures { result ≡ entering t.now a }
 {
-    if !is_sound(t) {
-        let none = record::no_header();
-        return Entrance {
-            entry: Entry::Unsound,
-            header: none,
-        };
+    let header = check(t)?;
+    let own = header.own;
+    if !soundness::is_usable(own, a) {
+        return Err(Refusal::Address);
     }
-    let h = header_of(t);
-    let entry = entry_of(t, h, a);
-    Entrance {
-        entry: entry,
-        header: h,
-    }
+    let w = record::width_of(header);
+    let slot = find(t, w, header.geometry.slots as usize, a);
+    Ok(Entrance { header, slot })
 }
 
 // ---- a record changed where it lies

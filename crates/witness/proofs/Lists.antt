@@ -8,7 +8,7 @@ use native.Mathlib.Omega.{arith}
 use lib.Dec.{lit<}
 use lib.ListN.{length, replicate, get_or}
 use Rattle.protocol.specs.Model.{Side, A, B, other, Commit}
-use Rattle.std.specs.Prelude.{if◌then◌else◌}
+use Rattle.std.specs.Prelude.{if◌then◌else◌, Some}
 use Rattle.octets.specs.Octets.{Bytes, oct, same_address}
 use Rattle.octets.proofs.Laws.{bytes-append, bytes-oct}
 use Rattle.octets.proofs.Scan.{clash}
@@ -157,7 +157,7 @@ pub record Keeps (e : Entry) (h : List Entry) : Type 0 where
   pub stays : (size : ℕ) (b o s : List ℕ) → e.call ≡ initialize size b o s → o ≡ own e.side
   pub hears : (X : Side) (a : List ℕ) (t : ℕ) (f r x : List ℕ) (v : ℕ) → e.side ≡ X → e.call ≡ receive a t f r x v → Sent (other X) (own X) f h
   pub trusts : (X : Side) (a : List ℕ) (t : ℕ) (f r x : List ℕ) (n : ℕ) (p : Pair) → e.side ≡ X → e.call ≡ receive a t f r x 1
-      → read_body (groups_in (table_of h X)) f ≡ body_is.Confirm n → Meets (story_of h X (own (other X))) p → SentOver (other X) (own X) f (exchanged p) h
+      → read_body (groups_in (table_of h X)) f ≡ Some (body_is.Confirm n) → Meets (story_of h X (own (other X))) p → SentOver (other X) (own X) f (exchanged p) h
 
 not_call : {X : Type 0} → ◌≡◌ {A = ℕ} 0 1 → X
 not_call z = absurd (omega arith)
@@ -182,7 +182,7 @@ frame-hears X frame stock v h S Y a t f r x w z e =
     let q : frame ≡ f = cc in subst (λ (Z : Side). Sent (other Z) (own Z) f h) z (subst (λ (g : List ℕ). Sent (other X) (own X) g h) q S)
 
 -- a frame with sequence 1 is no Confirm
-no-confirm : (gs f : List ℕ) (n : ℕ) → sequence_of f ≡ 1 → read_body gs f ≡ body_is.Confirm n → ⊥
+no-confirm : (gs f : List ℕ) (n : ℕ) → sequence_of f ≡ 1 → read_body gs f ≡ Some (body_is.Confirm n) → ⊥
 no-confirm gs f n i e = let z : ◌≡◌ {A = ℕ} 1 2 = sym i ∙ (confirm-shape gs f n e).sequence in absurd (omega arith)
 
 pub commit-sequence : (g : ℕ) (c : List ℕ) → sequence_of (commit_body g [] c) ≡ 1

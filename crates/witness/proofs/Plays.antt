@@ -20,7 +20,7 @@ use Rattle.rules.specs.declared.Frames.TheVariants as frames
 use Rattle.rules.specs.declared.Event.{Event}
 use Rattle.rules.specs.declared.Event.TheVariants as event
 use Rattle.rules.specs.Book.{commit_frame, group_refusal_frame, confirm_frame}
-use Rattle.answers.specs.declared.Outcome.TheVariants as outcome
+use Rattle.answers.specs.Outcome as outcome
 use Rattle.answers.specs.Answers.{Left}
 use Rattle.octets.specs.Octets as octets
 use Rattle.octets.specs.Scan.{bit}

@@ -1,4 +1,5 @@
 -- Laws of the writer: what each function's cases show of their definitions.
+use Rattle.std.specs.Prelude.{Result, Err, Option, Some, None, Ok}
 use mathlib.Core.Path.{◌≡◌, refl, sym, ap, ◌∙◌, subst}
 use mathlib.Core.Bool.{Bool, true, false, not}
 use mathlib.Core.List.{List}
@@ -14,8 +15,6 @@ use Rattle.octets.proofs.Scan.{and_left}
 use Rattle.groups.specs.Groups.{width, commit_length, stored, listed}
 use Rattle.groups.proofs.Laws.{part-stored}
 use Rattle.frame.specs.Writing.{Drawn, draw_commit, draw_confirm, parts_body, Writes}
-use Rattle.frame.specs.declared.Written.{Written}
-use Rattle.frame.specs.declared.Written.TheVariants as written_is
 use Rattle.frame.proofs.Laws.{outside, drawn}
 use Rattle.record.specs.declared.Header.{Header}
 use Rattle.record.specs.declared.Peer.{Peer}
@@ -26,22 +25,18 @@ use Rattle.soundness.proofs.Laws.{header-count, InUse, peer-in-use, run-states, 
 use Rattle.soundness.proofs.Storable.{header-room}
 use Rattle.table.specs.Table.{decode_table, slot, sound, entry, belongs, Reached, Enters}
 use Rattle.table.specs.declared.Entrance.{Entrance}
-use Rattle.table.specs.declared.Entry.{Entry}
-use Rattle.table.specs.declared.Entry.TheVariants.{Unsound, Unusable, Absent, At}
-use Rattle.table.proofs.Laws.{sound-by, sound-header, sound-peer, entry_at, found_below, reached}
+use Rattle.table.proofs.Laws.{entry-found, sound-by, sound-header, sound-peer, found_below, reached}
 use Rattle.table.proofs.Octets.{window-law, window-length}
-use Rattle.answers.specs.declared.Refusal.{Refusal}
-use Rattle.answers.specs.declared.Refusal.TheVariants as why
-use Rattle.writer.specs.declared.Wrote.{Wrote}
-use Rattle.writer.specs.declared.Wrote.TheVariants as wrote
+use Rattle.causes.specs.declared.Refusal.{Refusal}
+use Rattle.causes.specs.declared.Refusal.TheVariants as why
 use Rattle.writer.specs.Writer.{LeavesOut, refuse_out, wrote_of, draws, writes_parts, record_commit, record_confirm, record_body, Bounded, writes_record_by, writes_record}
 
 -- ---- what is answered
 
-pub wrote_by : (w v : Written) (r : Wrote) → w ≡ v → r ≡ wrote_of v → r ≡ wrote_of w
+pub wrote_by : (w v : Result ℕ Refusal) (r : Result ℕ Refusal) → w ≡ v → r ≡ wrote_of v → r ≡ wrote_of w
 wrote_by w v r e q = q ∙ ap wrote_of (sym e)
 
-pub drawn-out : (d : Drawn) (given left : List ℕ) (w : Written) (r : Wrote) → Writes d given left w → r ≡ wrote_of w → LeavesOut r left (draws d given)
+pub drawn-out : (d : Drawn) (given left : List ℕ) (w : Result ℕ Refusal) (r : Result ℕ Refusal) → Writes d given left w → r ≡ wrote_of w → LeavesOut r left (draws d given)
 unfolding draws
 drawn-out d given left w r l q = record { answer = q ∙ ap wrote_of l.answers; out = l.left_as }
 
@@ -67,11 +62,11 @@ module _ (t : List ℕ) (s : sound t ≡ true) (h : Header) (e : h ≡ (decode_t
 -- ---- from a frame's parts
 
 module _ (t : List ℕ) (q x g n : ℕ) (token rest out : List ℕ) (b : Bool) (p : b ≡ sound t) where
-  pub parts-unsound : not b ≡ true → LeavesOut (wrote.Refused why.Unsound) out (writes_parts t q x g n token rest out)
+  pub parts-unsound : not b ≡ true → LeavesOut (Err why.Unsound) out (writes_parts t q x g n token rest out)
   unfolding writes_parts
   parts-unsound k = let z : sound t ≡ false = sym p ∙ not-true b k in rw z (record { answer = refl; out = refl })
 
-  pub parts-drawn : (h : Header) (left : List ℕ) (w : Written) (r : Wrote) → not b ≡ false → h ≡ (decode_table t).header
+  pub parts-drawn : (h : Header) (left : List ℕ) (w : Result ℕ Refusal) (r : Result ℕ Refusal) → not b ≡ false → h ≡ (decode_table t).header
       → Writes (parts_body (groups_of h) q x g n token rest) out left w → r ≡ wrote_of w → LeavesOut r left (writes_parts t q x g n token rest out)
   unfolding writes_parts
   parts-drawn h left w r k e l a =
@@ -94,12 +89,12 @@ module _ (s : List ℕ) (W : ℕ) (B : Bounded s W) (state : ℕ) (es : state �
       omega (arith, en, f, l)
 
 module _ (gs : List ℕ) (p : Peer) (out : List ℕ) (state : ℕ) (es : state ≡ p.run.state) where
-  pub commit-none : state ≡ 0 → Writes (record_commit gs p) out out written_is.Shape
+  pub commit-none : state ≡ 0 → Writes (record_commit gs p) out out (Err why.Body)
   unfolding record_commit
   commit-none e = outside _ out (rw (eq-eqb p.run.state 0 (sym es ∙ e)))
 
   -- of the stored commit as many octets as the group has are those of the value
-  pub commit-run : (g m n : ℕ) (token own left : List ℕ) (w : Written) → (state ≡ 0 → ⊥) → g ≡ p.run.group → m ≡ p.run.toklen → token ≡ p.run.token
+  pub commit-run : (g m n : ℕ) (token own left : List ℕ) (w : Result ℕ Refusal) → (state ≡ 0 → ⊥) → g ≡ p.run.group → m ≡ p.run.toklen → token ≡ p.run.token
       → n ≡ commit_length g → n ≤ length own → stored own ≡ p.run.own → Writes (draw_commit gs g (take m token) (take n own)) out left w → Writes (record_commit gs p) out left w
   unfolding record_commit part
   commit-run g m n token own left w d eg em et en h eo l =
@@ -107,45 +102,45 @@ module _ (gs : List ℕ) (p : Peer) (out : List ℕ) (state : ℕ) (es : state �
       drawn _ _ out left w (rw (ne_eqb p.run.state 0 (λ z. d (es ∙ z)), ← eg, ← em, ← et, ← en, o)) l
 
 module _ (p : Peer) (value out : List ℕ) (state : ℕ) (es : state ≡ p.run.state) where
-  pub confirm-run : (sc : ℕ) (left : List ℕ) (w : Written) → state ≡ 2 → sc ≡ p.run.sc → Writes (draw_confirm sc value) out left w → Writes (record_confirm p value) out left w
+  pub confirm-run : (sc : ℕ) (left : List ℕ) (w : Result ℕ Refusal) → state ≡ 2 → sc ≡ p.run.sc → Writes (draw_confirm sc value) out left w → Writes (record_confirm p value) out left w
   unfolding record_confirm
   confirm-run sc left w e q l = drawn _ _ out left w (rw (eq-eqb p.run.state 2 (sym es ∙ e), ← q)) l
 
-  pub confirm-early : (state ≡ 2 → ⊥) → (state ≡ 0 → ⊥) → Writes (record_confirm p value) out out written_is.Shape
+  pub confirm-early : (state ≡ 2 → ⊥) → (state ≡ 0 → ⊥) → Writes (record_confirm p value) out out (Err why.Body)
   unfolding record_confirm
   confirm-early d e = outside _ out (rw (ne_eqb p.run.state 2 (λ z. d (es ∙ z)), ne_eqb p.run.state 0 (λ z. e (es ∙ z))))
 
   module _ (e : state ≡ 0) (finished : ℕ) (ef : finished ≡ p.link.finished) where
-    pub confirm-link : (left : List ℕ) (w : Written) → (finished ≡ 0 → ⊥) → Writes (draw_confirm 65535 value) out left w → Writes (record_confirm p value) out left w
+    pub confirm-link : (left : List ℕ) (w : Result ℕ Refusal) → (finished ≡ 0 → ⊥) → Writes (draw_confirm 65535 value) out left w → Writes (record_confirm p value) out left w
     unfolding record_confirm
     confirm-link left w d l =
         drawn _ _ out left w (rw (ne_eqb p.run.state 2 (omega (arith, es, e)), eq-eqb p.run.state 0 (sym es ∙ e), ne_eqb p.link.finished 0 (λ z. d (ef ∙ z)))) l
 
-    pub confirm-none : finished ≡ 0 → Writes (record_confirm p value) out out written_is.Shape
+    pub confirm-none : finished ≡ 0 → Writes (record_confirm p value) out out (Err why.Body)
     unfolding record_confirm
     confirm-none d =
         outside _ out (rw (ne_eqb p.run.state 2 (omega (arith, es, e)), eq-eqb p.run.state 0 (sym es ∙ e), eq-eqb p.link.finished 0 (sym ef ∙ d)))
 
 module _ (gs : List ℕ) (p : Peer) (q : ℕ) (value out : List ℕ) where
-  pub body-commit : (left : List ℕ) (w : Written) → q ≡ 1 → Writes (record_commit gs p) out left w → Writes (record_body gs p q value) out left w
+  pub body-commit : (left : List ℕ) (w : Result ℕ Refusal) → q ≡ 1 → Writes (record_commit gs p) out left w → Writes (record_body gs p q value) out left w
   unfolding record_body
   body-commit left w e l = drawn _ _ out left w (rw (eq-eqb q 1 e)) l
 
-  pub body-confirm : (left : List ℕ) (w : Written) → (q ≡ 1 → ⊥) → q ≡ 2 → Writes (record_confirm p value) out left w → Writes (record_body gs p q value) out left w
+  pub body-confirm : (left : List ℕ) (w : Result ℕ Refusal) → (q ≡ 1 → ⊥) → q ≡ 2 → Writes (record_confirm p value) out left w → Writes (record_body gs p q value) out left w
   unfolding record_body
   body-confirm left w d e l = drawn _ _ out left w (rw (ne_eqb q 1 d, eq-eqb q 2 e)) l
 
-  pub body-neither : (q ≡ 1 → ⊥) → (q ≡ 2 → ⊥) → Writes (record_body gs p q value) out out written_is.Shape
+  pub body-neither : (q ≡ 1 → ⊥) → (q ≡ 2 → ⊥) → Writes (record_body gs p q value) out out (Err why.Body)
   unfolding record_body
   body-neither d e = outside _ out (rw (ne_eqb q 1 d, ne_eqb q 2 e))
 
 -- ---- from a record: the call
 
 -- the record of an address in a sound table
-pub in-use-at : (t a : List ℕ) (k : ℕ) → entry t a ≡ At k → InUse (decode_table t).header.own (groups_of (decode_table t).header) (high_sync (decode_table t).header) (slot (decode_table t) k)
+pub in-use-at : (t a : List ℕ) (k : ℕ) → entry t a ≡ Ok (Some k) → InUse (decode_table t).header.own (groups_of (decode_table t).header) (high_sync (decode_table t).header) (slot (decode_table t) k)
 unfolding belongs
 in-use-at t a k e =
-    let w = entry_at t a k e in
+    let w = entry-found t a (Some k) e in
     let f = found_below (decode_table t) a k w.1.1 in
     let u : (slot (decode_table t) k).used ≡ 1 = eqb-true _ _ (and_left _ _ f.1) in
     peer-in-use _ _ _ _ (λ z. omega arith) (sound-peer t w.0 k f.0)
@@ -161,37 +156,37 @@ run-names own gs high p u d = elim (run-states gs high p.run u.run) [
 ]
 
 module _ (t a : List ℕ) (r : Entrance) (E : Enters r t a) where
-  pub record-refused : (x : Entry) (c : Refusal) (q : ℕ) (value out : List ℕ) → r.entry ≡ x → ((y : Entry) → y ≡ x → writes_record_by y t q value out ≡ refuse_out out c)
-      → LeavesOut (wrote.Refused c) out (writes_record t a q value out)
+  pub record-refused : (x : Result (Option ℕ) Refusal) (c : Refusal) (q : ℕ) (value out : List ℕ) → r.entry ≡ x → ((y : Result (Option ℕ) Refusal) → y ≡ x → writes_record_by y t q value out ≡ refuse_out out c)
+      → LeavesOut (Err c) out (writes_record t a q value out)
   unfolding writes_record
   record-refused x c q value out k f = rw (f (entry t a) (sym E.entry ∙ k)) (record { answer = refl; out = refl })
 
   module _ (q : ℕ) (value out : List ℕ) where
-    pub record-unsound : r.entry ≡ Unsound → LeavesOut (wrote.Refused why.Unsound) out (writes_record t a q value out)
+    pub record-unsound : r.entry ≡ Err why.Unsound → LeavesOut (Err why.Unsound) out (writes_record t a q value out)
     unfolding writes_record_by
-    record-unsound k = record-refused Unsound why.Unsound q value out k (λ y z. rw z)
+    record-unsound k = record-refused (Err why.Unsound) why.Unsound q value out k (λ y z. rw z)
 
-    pub record-unusable : r.entry ≡ Unusable → LeavesOut (wrote.Refused why.Address) out (writes_record t a q value out)
+    pub record-unusable : r.entry ≡ Err why.Address → LeavesOut (Err why.Address) out (writes_record t a q value out)
     unfolding writes_record_by
-    record-unusable k = record-refused Unusable why.Address q value out k (λ y z. rw z)
+    record-unusable k = record-refused (Err why.Address) why.Address q value out k (λ y z. rw z)
 
-    pub record-absent : r.entry ≡ Absent → LeavesOut (wrote.Refused why.Body) out (writes_record t a q value out)
+    pub record-absent : r.entry ≡ Ok None → LeavesOut (Err why.Body) out (writes_record t a q value out)
     unfolding writes_record_by
-    record-absent k = record-refused Absent why.Body q value out k (λ y z. rw z)
+    record-absent k = record-refused (Ok None) why.Body q value out k (λ y z. rw z)
 
-  module _ (k : ℕ) (at : r.entry ≡ At k) where
-    here : entry t a ≡ At k
+  module _ (k : ℕ) (at : r.entry ≡ Ok (Some k)) where
+    here : entry t a ≡ Ok (Some k)
     here = sym E.entry ∙ at
 
     pub at-sound : sound t ≡ true
-    at-sound = (entry_at t a k here).0
+    at-sound = (entry-found t a (Some k) here).0
 
     pub at-header : r.header ≡ (decode_table t).header
     at-header = E.header at-sound
 
     module _ (w : ℕ) (W : (w ≡ width_in r.header) × (w ≤ width)) where
       pub at-reached : Reached t w k
-      at-reached = reached t r.header w k at-sound at-header W.0 W.1 (found_below (decode_table t) a k (entry_at t a k here).1.1).0
+      at-reached = reached t r.header w k at-sound at-header W.0 W.1 (found_below (decode_table t) a k (entry-found t a (Some k) here).1.1).0
 
       roomy : (g : ℕ) → listed (groups_of (decode_table t).header) g ≡ true → commit_length g ≤ w
       roomy g l = rw (W.0, at-header) ((header-room _ (sound-header t at-sound)).each g l)
@@ -212,7 +207,7 @@ module _ (t a : List ℕ) (r : Entrance) (E : Enters r t a) where
               own = subst (λ (x : Peer). (x.run.state ≡ 0 → ⊥) → commit_length x.run.group ≤ w) (sym in_window) (λ d. roomy _ (u d).0);
             }
 
-        pub record-drawn : (q : ℕ) (value out left : List ℕ) (y : Written) (z : Wrote)
+        pub record-drawn : (q : ℕ) (value out left : List ℕ) (y : Result ℕ Refusal) (z : Result ℕ Refusal)
             → Writes (record_body (groups_of r.header) (decode_peer w (take (b + n - b) (drop b t))) q value) out left y → z ≡ wrote_of y → LeavesOut z left (writes_record t a q value out)
         unfolding writes_record writes_record_by
         record-drawn q value out left y z l e =

@@ -10,12 +10,9 @@ use lib.ListN.{length, take}
 use lib.Seq.{take_all, length-take-le}
 use borrow.Author.Tests.{lt-ltb, le-ltb, eqb-true}
 use Rattle.octets.specs.Octets.{part, Bytes}
-use Rattle.std.specs.Prelude.{if◌then◌else◌}
-use Rattle.octets.specs.declared.Found.TheVariants as found
+use Rattle.std.specs.Prelude.{if◌then◌else◌, Some, Result, Ok, Err, Option, None}
 use Rattle.frame.specs.Frame.{read_body, token_of, commit_of, value_of, commit_body, token_request_body, group_refusal_body, confirm_body}
 use Rattle.frame.specs.declared.Body.TheVariants as body
-use Rattle.frame.specs.declared.Written.{Written}
-use Rattle.frame.specs.declared.Written.TheVariants as written_is
 use Rattle.frame.specs.Writing.{Drawn, Octets, Outside, draw_confirm, draw_commits, draw_confirms, parts_body, written, leaves}
 use Rattle.frame.proofs.Shapes.{if-then, if-else, confirm-shape}
 use Rattle.frame.proofs.RoundTrip.{commit-again, token-request-again, group-refusal-again, confirm-first}
@@ -26,17 +23,15 @@ use Rattle.frame.proofs.Wrote.{parts-commit-is, parts-request-is, parts-refusal-
 use Rattle.frame.proofs.Wrote as frame-wrote
 use Rattle.record.specs.declared.Peer.{Peer}
 use Rattle.table.specs.Table.{decode_table, slot, look, look_by, sound, entry, finds}
-use Rattle.table.specs.declared.Entry.{Entry}
-use Rattle.table.specs.declared.Entry.TheVariants.{Unsound, Unusable, Absent, At}
-use Rattle.table.proofs.Laws.{entry_at}
+use Rattle.table.proofs.Laws.{entry-found}
 use Rattle.rules.specs.Book.{◌is◌, ◌isnt◌}
 use Rattle.message.specs.View.{view}
-use Rattle.answers.specs.declared.Refusal.TheVariants as why
-use Rattle.writer.specs.declared.Wrote.TheVariants as wrote
+use Rattle.causes.specs.declared.Refusal.TheVariants as why
 use Rattle.writer.specs.Writer.{LeftOut, refuse_out, wrote_of, draws, writes_parts, record_commit, record_confirm, record_body, writes_record_by, writes_record}
 use Rattle.writer.specs.RoundTrip.{Parts, rest_of, parts_in, groups_in, writes_from, Copied, Again, CommitAgain, ConfirmAgain}
 use Rattle.writer.specs.RoundTrip.{Supports, Numbers, Back, commit_parts, confirm_parts, record_parts}
 use Rattle.writer.proofs.Theorems.{fits}
+use Rattle.causes.specs.declared.Refusal.{Refusal}
 
 abbrev made : ℕ → ℕ → ℕ → ℕ → List ℕ → List ℕ → Parts
 made q x g n t r = record { sequence = q; status = x; group = g; counter = n; token = t; rest = r }
@@ -44,19 +39,19 @@ made q x g n t r = record { sequence = q; status = x; group = g; counter = n; to
 -- ---- the parts of each shape
 
 module _ (gs s : List ℕ) where
-  commit-in : (g n : ℕ) → read_body gs s ≡ body.Commit g n → parts_in gs s ≡ made 1 0 g 0 (token_of s n) (commit_of s g n)
+  commit-in : (g n : ℕ) → read_body gs s ≡ Some (body.Commit g n) → parts_in gs s ≡ made 1 0 g 0 (token_of s n) (commit_of s g n)
   unfolding parts_in view rest_of
   commit-in g n e = rw e
 
-  request-in : (g n : ℕ) → read_body gs s ≡ body.TokenRequest g n → parts_in gs s ≡ made 1 76 g 0 (token_of s n) []
+  request-in : (g n : ℕ) → read_body gs s ≡ Some (body.TokenRequest g n) → parts_in gs s ≡ made 1 76 g 0 (token_of s n) []
   unfolding parts_in view rest_of
   request-in g n e = rw e
 
-  refusal-in : (g : ℕ) → read_body gs s ≡ body.GroupRefusal g → parts_in gs s ≡ made 1 77 g 0 [] []
+  refusal-in : (g : ℕ) → read_body gs s ≡ Some (body.GroupRefusal g) → parts_in gs s ≡ made 1 77 g 0 [] []
   unfolding parts_in view rest_of token_of part
   refusal-in g e = rw e
 
-  confirm-in : (n : ℕ) → read_body gs s ≡ body.Confirm n → parts_in gs s ≡ made 2 0 0 n [] (value_of s)
+  confirm-in : (n : ℕ) → read_body gs s ≡ Some (body.Confirm n) → parts_in gs s ≡ made 2 0 0 n [] (value_of s)
   unfolding parts_in view rest_of token_of part
   confirm-in n e = rw e
 
@@ -89,14 +84,14 @@ module _ (t s : List ℕ) (k : sound t ≡ true) where
       }
 
   -- of any status 0 Confirm the first 40 octets
-  confirm-copied : Bytes s → (n : ℕ) → read_body list s ≡ body.Confirm n → (out : List ℕ) → Copied (take 40 s) out (writes_from t (parts_in list s) out)
+  confirm-copied : Bytes s → (n : ℕ) → read_body list s ≡ Some (body.Confirm n) → (out : List ℕ) → Copied (take 40 s) out (writes_from t (parts_in list s) out)
   confirm-copied b n e = drawn-copied (take 40 s) _ (confirm-in list s n e) (parts-confirm-is list [] _ n ∙ confirm-first list s n b e)
 
   -- two lengths answered for one buffer are one
   copied-long : (u v out : List ℕ) (l : LeftOut) → length u ≤ length out → length v ≤ length out → Copied u out l → Copied v out l → length u ≡ length v
   copied-long u v out l h j c d = same (sym (ap (λ (x : LeftOut). x.answer) (c.whole h)) ∙ ap (λ (x : LeftOut). x.answer) (d.whole j))
     where
-      same : wrote.Length (length u) ≡ wrote.Length (length v) → length u ≡ length v
+      same : Ok (length u) ≡ Ok (length v) → length u ≡ length v
       same q = cc
 
   pub confirms-again : Bytes s → ConfirmAgain t s
@@ -195,17 +190,17 @@ drew-numbers gs s p gb nb (drew_refusal e) = record { sequence = inl refl; statu
 drew-numbers gs s p gb nb (drew_confirm w) = record { sequence = inr refl; status = lit< tt; group = gb; counter = nb }
 
 -- what was drawn stands in the buffer
-drawn-wrote : (d : Drawn) (out : List ℕ) (m : ℕ) → (draws d out).answer ≡ wrote.Length m → frame-wrote.Wrote d out (draws d out).out m
+drawn-wrote : (d : Drawn) (out : List ℕ) (m : ℕ) → (draws d out).answer ≡ Ok m → frame-wrote.Wrote d out (draws d out).out m
 unfolding draws
 drawn-wrote d out m e = frame-wrote.wrote d out (leaves d out) m (record { answers = sym (go (written d out) e); left_as = refl })
   where
-    go : (w : Written) → wrote_of w ≡ wrote.Length m → w ≡ written_is.Length m
-    go (written_is.Length k) h = cc
-    go written_is.Shape h = let z : ◌≡◌ {A = ℕ} 0 1 = cc in absurd (omega arith)
-    go written_is.Short h = let z : ◌≡◌ {A = ℕ} 0 1 = cc in absurd (omega arith)
+    go : (w : Result ℕ Refusal) → wrote_of w ≡ Ok m → w ≡ Ok m
+    go (Ok k) h = cc
+    go (Err why.Body) h = let z : ◌≡◌ {A = ℕ} 0 1 = cc in absurd (omega arith)
+    go (Err why.Short) h = let z : ◌≡◌ {A = ℕ} 0 1 = cc in absurd (omega arith)
 
 module _ (t : List ℕ) (p : Parts) (d : Drawn) (out : List ℕ) (m : ℕ) (gb : p.group < 65536) (nb : p.counter < 65536) where
-  drawn-back : ((s : List ℕ) → d ≡ Octets s → Drew (groups_in t) s p) → (draws d out).answer ≡ wrote.Length m → Back t p out (draws d out).out m
+  drawn-back : ((s : List ℕ) → d ≡ Octets s → Drew (groups_in t) s p) → (draws d out).answer ≡ Ok m → Back t p out (draws d out).out m
   drawn-back f e =
       let w = drawn-wrote d out m e in
       let D = f _ w.frame in
@@ -219,14 +214,14 @@ module _ (t : List ℕ) (p : Parts) (d : Drawn) (out : List ℕ) (m : ℕ) (gb :
 
 -- from parts
 pub parts-back : (t : List ℕ) (p : Parts) (out : List ℕ) (m : ℕ) → p.group < 65536 → p.counter < 65536
-    → (writes_from t p out).answer ≡ wrote.Length m → Back t p out (writes_from t p out).out m
+    → (writes_from t p out).answer ≡ Ok m → Back t p out (writes_from t p out).out m
 unfolding writes_parts
 parts-back t p out m gb nb = go (sound t)
   where
     left : Bool → LeftOut
     left b = if b then draws (drawn_from (groups_in t) p) out else refuse_out out why.Unsound
 
-    go : (b : Bool) → (left b).answer ≡ wrote.Length m → Back t p out (left b).out m
+    go : (b : Bool) → (left b).answer ≡ Ok m → Back t p out (left b).out m
     go true e = drawn-back t p _ out m gb nb (λ s d. parts-drew (groups_in t) s p.group p.token p.rest p.sequence p.status p.counter d) e
     go false e = let z : ◌≡◌ {A = ℕ} 0 1 = cc in absurd (omega arith)
 
@@ -266,22 +261,22 @@ module _ (p : Peer) (q : ℕ) (value : List ℕ) where
       go false false = lit< tt
 
 module _ (t a : List ℕ) (q : ℕ) (value out : List ℕ) (m : ℕ) where
-  abbrev written_of : Entry → LeftOut
+  abbrev written_of : Result (Option ℕ) Refusal → LeftOut
   written_of E = writes_record_by E t q value out
 
-  pub record-back : Bytes t → (writes_record t a q value out).answer ≡ wrote.Length m
+  pub record-back : Bytes t → (writes_record t a q value out).answer ≡ Ok m
       → Back t (record_parts (look (decode_table t) a) q value) out (writes_record t a q value out).out m
   unfolding writes_record writes_record_by look look_by
   record-back b = go (entry t a) refl
     where
-      here : (k : ℕ) → finds (decode_table t) a ≡ found.At k → slot (decode_table t) k ≡ look (decode_table t) a
+      here : (k : ℕ) → finds (decode_table t) a ≡ Some k → slot (decode_table t) k ≡ look (decode_table t) a
       here k h = rw h
 
-      go : (E : Entry) → entry t a ≡ E → (written_of E).answer ≡ wrote.Length m → Back t (record_parts (look (decode_table t) a) q value) out (written_of E).out m
-      go Unsound e h = let z : ◌≡◌ {A = ℕ} 0 1 = cc in absurd (omega arith)
-      go Unusable e h = let z : ◌≡◌ {A = ℕ} 0 1 = cc in absurd (omega arith)
-      go Absent e h = let z : ◌≡◌ {A = ℕ} 0 1 = cc in absurd (omega arith)
-      go (At k) e h =
+      go : (E : Result (Option ℕ) Refusal) → entry t a ≡ E → (written_of E).answer ≡ Ok m → Back t (record_parts (look (decode_table t) a) q value) out (written_of E).out m
+      go (Err why.Unsound) e h = let z : ◌≡◌ {A = ℕ} 0 1 = cc in absurd (omega arith)
+      go (Err why.Address) e h = let z : ◌≡◌ {A = ℕ} 0 1 = cc in absurd (omega arith)
+      go (Ok None) e h = let z : ◌≡◌ {A = ℕ} 0 1 = cc in absurd (omega arith)
+      go (Ok (Some k)) e h =
           let f = (fits t a k e b).run.shape in
-          subst (λ (p : Peer). Back t (record_parts p q value) out (written_of (At k)).out m) (here k (entry_at t a k e).1.1)
+          subst (λ (p : Peer). Back t (record_parts p q value) out (written_of (Ok (Some k))).out m) (here k (entry-found t a (Some k) e).1.1)
           (drawn-back t _ _ out m (record-group _ q value f.group) (record-counter _ q value f.sc) (λ s d. record-drew (groups_in t) _ q value s d) h)

@@ -10,9 +10,7 @@ use lib.ListN.{length, take}
 use lib.Seq.{length-take-le}
 use borrow.Author.Tests.{le-ltb, eq-eqb, ne_eqb, ltb-true, ltb-false}
 use Rattle.octets.specs.Octets.{put, Bytes}
-use Rattle.std.specs.Prelude.{if◌then◌else◌}
-use Rattle.octets.specs.declared.Found.{Found}
-use Rattle.octets.specs.declared.Found.TheVariants as found
+use Rattle.std.specs.Prelude.{if◌then◌else◌, Option, Some, None, Ok, Err}
 use Rattle.groups.specs.Groups.{width, commit_length, listed}
 use Rattle.groups.proofs.Laws.{commit-fits}
 use Rattle.frame.specs.Frame.{read_body, token_of, commit_of, value_of, commit_body, confirm_body}
@@ -26,12 +24,10 @@ use Rattle.record.proofs.Laws.{FitPeer}
 use Rattle.soundness.specs.Soundness.{usable, high_sync}
 use Rattle.soundness.proofs.Laws.{InUse}
 use Rattle.table.specs.Table.{width_of, decode_table, slot, slots, sound, entry, found_entry, finds}
-use Rattle.table.specs.declared.Entry.TheVariants.{Unsound, Unusable, At}
-use Rattle.table.proofs.Laws.{sound-whole, peers-held, entry_at, found_below}
+use Rattle.table.proofs.Laws.{entry-found, sound-whole, peers-held, found_below}
 use Rattle.table.proofs.Fit.{fit-decoded, fit-slot}
-use Rattle.answers.specs.declared.Refusal.{Refusal}
-use Rattle.answers.specs.declared.Refusal.TheVariants as why
-use Rattle.writer.specs.declared.Wrote.TheVariants as wrote
+use Rattle.causes.specs.declared.Refusal.{Refusal}
+use Rattle.causes.specs.declared.Refusal.TheVariants as why
 use Rattle.writer.specs.Writer.{LeftOut, refuse_out, draws, writes_parts, record_commit, record_confirm, record_body, writes_record_by, writes_record}
 use Rattle.writer.proofs.Laws.{in-use-at, run-names}
 
@@ -41,7 +37,7 @@ use Rattle.writer.proofs.Laws.{in-use-at, run-names}
 pub data Draws (d : Drawn) (out : List ℕ) : LeftOut → Type 0 where
   outside : d ≡ Outside → Draws d out (refuse_out out why.Body)
   short : (s : List ℕ) → d ≡ Octets s → length out < length s → Draws d out (refuse_out out why.Short)
-  whole : (s : List ℕ) → d ≡ Octets s → length s ≤ length out → Draws d out (record { answer = wrote.Length (length s); out = put out 0 s })
+  whole : (s : List ℕ) → d ≡ Octets s → length s ≤ length out → Draws d out (record { answer = Ok (length s); out = put out 0 s })
 
 pub draws-one : (d : Drawn) (out : List ℕ) → Draws d out (draws d out)
 unfolding draws written leaves
@@ -73,8 +69,8 @@ module _ (t : List ℕ) (q x g n : ℕ) (token rest out : List ℕ) where
 pub data FromRecord (t a : List ℕ) (q : ℕ) (value out : List ℕ) : LeftOut → Type 0 where
   unsound : sound t ≡ false → FromRecord t a q value out (refuse_out out why.Unsound)
   unusable : sound t ≡ true → usable (decode_table t).header.own a ≡ false → FromRecord t a q value out (refuse_out out why.Address)
-  absent : sound t ≡ true → usable (decode_table t).header.own a ≡ true → finds (decode_table t) a ≡ found.Nothing → FromRecord t a q value out (refuse_out out why.Body)
-  drawn : {l : LeftOut} (k : ℕ) → sound t ≡ true → usable (decode_table t).header.own a ≡ true → finds (decode_table t) a ≡ found.At k
+  absent : sound t ≡ true → usable (decode_table t).header.own a ≡ true → finds (decode_table t) a ≡ None → FromRecord t a q value out (refuse_out out why.Body)
+  drawn : {l : LeftOut} (k : ℕ) → sound t ≡ true → usable (decode_table t).header.own a ≡ true → finds (decode_table t) a ≡ Some k
       → Draws (record_body (groups_of (decode_table t).header) (slot (decode_table t) k) q value) out l → FromRecord t a q value out l
 
 module _ (t a : List ℕ) (q : ℕ) (value out : List ℕ) where
@@ -82,17 +78,17 @@ module _ (t a : List ℕ) (q : ℕ) (value out : List ℕ) where
   unfolding writes_record entry found_entry writes_record_by
   record-one = go (sound t) refl
     where
-      third : (f : Found) → sound t ≡ true → usable (decode_table t).header.own a ≡ true → finds (decode_table t) a ≡ f → FromRecord t a q value out (writes_record_by (found_entry f) t q value out)
-      third (found.At k) e u h = drawn k e u h (draws-one _ out)
-      third found.Nothing e u h = absent e u h
+      third : (f : Option ℕ) → sound t ≡ true → usable (decode_table t).header.own a ≡ true → finds (decode_table t) a ≡ f → FromRecord t a q value out (writes_record_by (found_entry f) t q value out)
+      third (Some k) e u h = drawn k e u h (draws-one _ out)
+      third None e u h = absent e u h
 
       second : (b : Bool) → sound t ≡ true → usable (decode_table t).header.own a ≡ b
-          → FromRecord t a q value out (writes_record_by (if not b then Unusable else found_entry (finds (decode_table t) a)) t q value out)
+          → FromRecord t a q value out (writes_record_by (if not b then (Err why.Address) else found_entry (finds (decode_table t) a)) t q value out)
       second true e u = third (finds (decode_table t) a) e u refl
       second false e u = unusable e u
 
       first : (b : Bool) → sound t ≡ b
-          → FromRecord t a q value out (writes_record_by (if not b then Unsound else if not (usable (decode_table t).header.own a) then Unusable else found_entry (finds (decode_table t) a)) t q value out)
+          → FromRecord t a q value out (writes_record_by (if not b then (Err why.Unsound) else if not (usable (decode_table t).header.own a) then (Err why.Address) else found_entry (finds (decode_table t) a)) t q value out)
       first true e = second (usable (decode_table t).header.own a) e refl
       first false e = unsound e
 
@@ -101,22 +97,22 @@ module _ (t a : List ℕ) (q : ℕ) (value out : List ℕ) where
 
 -- ---- a refusal leaves every octet of the buffer
 
-draws-refused : (d : Drawn) (out : List ℕ) (l : LeftOut) (c : Refusal) → Draws d out l → l.answer ≡ wrote.Refused c → l.out ≡ out
+draws-refused : (d : Drawn) (out : List ℕ) (l : LeftOut) (c : Refusal) → Draws d out l → l.answer ≡ Err c → l.out ≡ out
 draws-refused d out l c (outside e) r = refl
 draws-refused d out l c (short s e h) r = refl
 draws-refused d out l c (whole s e h) r = let z : ◌≡◌ {A = ℕ} 0 1 = cc in absurd (omega arith)
 
-pub parts-refused : (t : List ℕ) (q x g n : ℕ) (token rest out : List ℕ) (c : Refusal) → (writes_parts t q x g n token rest out).answer ≡ wrote.Refused c → (writes_parts t q x g n token rest out).out ≡ out
+pub parts-refused : (t : List ℕ) (q x g n : ℕ) (token rest out : List ℕ) (c : Refusal) → (writes_parts t q x g n token rest out).answer ≡ Err c → (writes_parts t q x g n token rest out).out ≡ out
 parts-refused t q x g n token rest out c r = go _ (parts-one t q x g n token rest out) r
   where
-    go : (l : LeftOut) → FromParts t (parts t q x g n token rest out) out l → l.answer ≡ wrote.Refused c → l.out ≡ out
+    go : (l : LeftOut) → FromParts t (parts t q x g n token rest out) out l → l.answer ≡ Err c → l.out ≡ out
     go l (malformed e) k = refl
     go l (made e d) k = draws-refused _ out l c d k
 
-pub record-refused : (t a : List ℕ) (q : ℕ) (value out : List ℕ) (c : Refusal) → (writes_record t a q value out).answer ≡ wrote.Refused c → (writes_record t a q value out).out ≡ out
+pub record-refused : (t a : List ℕ) (q : ℕ) (value out : List ℕ) (c : Refusal) → (writes_record t a q value out).answer ≡ Err c → (writes_record t a q value out).out ≡ out
 record-refused t a q value out c r = go _ (record-one t a q value out) r
   where
-    go : (l : LeftOut) → FromRecord t a q value out l → l.answer ≡ wrote.Refused c → l.out ≡ out
+    go : (l : LeftOut) → FromRecord t a q value out l → l.answer ≡ Err c → l.out ≡ out
     go l (unsound e) k = refl
     go l (unusable e u) k = refl
     go l (absent e u h) k = refl
@@ -126,14 +122,14 @@ record-refused t a q value out c r = go _ (record-one t a q value out) r
 
 -- s is written into the buffer
 pub record Written (l : LeftOut) (s out : List ℕ) : Type 0 where
-  pub answer : l.answer ≡ wrote.Length (length s)
+  pub answer : l.answer ≡ Ok (length s)
   pub buffer : l.out ≡ put out 0 s
 
 room : (d : Drawn) (s out : List ℕ) → d ≡ Octets s → length s ≤ length out → Written (draws d out) s out
 unfolding draws written leaves
 room d s out e h = rw (e, le-ltb (length out) (length s) h) (record { answer = refl; buffer = refl })
 
-module _ (t a : List ℕ) (k : ℕ) (e : entry t a ≡ At k) where
+module _ (t a : List ℕ) (k : ℕ) (e : entry t a ≡ Ok (Some k)) where
   abbrev pub here : Peer
   here = slot (decode_table t) k
 
@@ -151,7 +147,7 @@ module _ (t a : List ℕ) (k : ℕ) (e : entry t a ≡ At k) where
   -- the record's arrays have their lengths, and its numbers fit
   pub fits : Bytes t → FitPeer width here
   fits b =
-      let w = entry_at t a k e in
+      let w = entry-found t a (Some k) e in
       let l : length t ≡ record_at (width_of t) (slots (decode_table t)) = sound-whole t w.0 in
       let n : length (decode_table t).peers ≡ slots (decode_table t) = peers-held t (slots (decode_table t)) l in
       let f : k < slots (decode_table t) = (found_below (decode_table t) a k w.1.1).0 in
@@ -189,7 +185,7 @@ module _ (t a : List ℕ) (k : ℕ) (e : entry t a ≡ At k) where
     commit-written value out h = asked 1 value out _ (commit-drawn value) (omega (arith, commit-octets))
 
     -- for every reader whose list has the group
-    pub commit-reads-back : (hs : List ℕ) → listed hs here.run.group ≡ true → read_body hs (commit_body here.run.group token own) ≡ body_is.Commit here.run.group here.run.toklen
+    pub commit-reads-back : (hs : List ℕ) → listed hs here.run.group ≡ true → read_body hs (commit_body here.run.group token own) ≡ Some (body_is.Commit here.run.group here.run.toklen)
     commit-reads-back hs l =
         commit-reads hs here.run.group token own l (fits b).run.shape.group (omega (arith, token-length, supported.1)) own-length ∙ ap (body_is.Commit here.run.group) token-length
 
@@ -225,7 +221,7 @@ module _ (t a : List ℕ) (k : ℕ) (e : entry t a ≡ At k) where
         let d : record_body list here 2 value ≡ draw_confirm 65535 value = rw (ne_eqb here.run.state 2 (omega arith), eq-eqb here.run.state 0 r, ne_eqb here.link.finished 0 (linked r)) in
         asked 2 value out _ (d ∙ confirm-is 65535) (omega (arith, confirm-octets 65535))
 
-    pub confirm-reads-back : (hs : List ℕ) (n : ℕ) → n < 65536 → read_body hs (confirm_body n value) ≡ body_is.Confirm n
+    pub confirm-reads-back : (hs : List ℕ) (n : ℕ) → n < 65536 → read_body hs (confirm_body n value) ≡ Some (body_is.Confirm n)
     confirm-reads-back hs n h = confirm-reads hs n value h v
 
     pub value_back : (n : ℕ) → value_of (confirm_body n value) ≡ value

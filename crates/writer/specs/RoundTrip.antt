@@ -1,6 +1,6 @@
 -- "What is written reads back; a status 0 Confirm or supported Commit, once read, is written again as the same octets", of the writer's calls; of Confirms just
 -- those of 40 octets.
-use Rattle.std.specs.Prelude.{◌≡◌, true, ◌&&◌, List, [], ◌⊎◌, ℕ, ◌≤◌, ◌<◌, length, take, drop, if◌then◌else◌}
+use Rattle.std.specs.Prelude.{◌≡◌, true, ◌&&◌, List, [], ◌⊎◌, ℕ, ◌≤◌, ◌<◌, length, take, drop, if◌then◌else◌, Some, Ok}
 use Rattle.octets.specs.Octets.{put}
 use Rattle.groups.specs.Groups.{commit_length, listed}
 use Rattle.frame.specs.Frame.{read_body, token_of, commit_of, value_of}
@@ -11,8 +11,7 @@ use Rattle.table.specs.Table.{decode_table}
 use Rattle.rules.specs.Book.{◌is◌}
 use Rattle.message.specs.declared.View.{View}
 use Rattle.message.specs.View.{view}
-use Rattle.answers.specs.declared.Refusal.TheVariants as why
-use Rattle.writer.specs.declared.Wrote.TheVariants as wrote
+use Rattle.causes.specs.declared.Refusal.TheVariants as why
 use Rattle.writer.specs.Writer.{LeftOut, refuse_out, writes_parts}
 
 -- a frame's parts, as the reader hands them back and as the writer takes them; rest is scalar and element, or a Confirm's value
@@ -51,7 +50,7 @@ writes_from t p out = writes_parts t p.sequence p.status p.group p.counter p.tok
 
 -- the octets s and no others: they stand first in the buffer, their number is answered, octets past them stay; a buffer too short for them is 11
 pub record Copied (s out : List ℕ) (l : LeftOut) : Type 0 where
-  pub whole : length s ≤ length out → l ≡ record { answer = wrote.Length (length s); out = put out 0 s }
+  pub whole : length s ≤ length out → l ≡ record { answer = Ok (length s); out = put out 0 s }
   pub short : length out < length s → l ≡ refuse_out out why.Short
 
 -- ---- once read, written again
@@ -62,15 +61,15 @@ pub record Again (t s : List ℕ) : Type 0 where
 
 -- of every body: a supported Commit; also a 76 and a 77
 pub record CommitAgain (t s : List ℕ) : Type 0 where
-  pub commit : (g n : ℕ) → read_body (groups_in t) s ≡ body.Commit g n → Again t s
-  pub token_request : (g n : ℕ) → read_body (groups_in t) s ≡ body.TokenRequest g n → Again t s
-  pub group_refusal : (g : ℕ) → read_body (groups_in t) s ≡ body.GroupRefusal g → Again t s
+  pub commit : (g n : ℕ) → read_body (groups_in t) s ≡ Some (body.Commit g n) → Again t s
+  pub token_request : (g n : ℕ) → read_body (groups_in t) s ≡ Some (body.TokenRequest g n) → Again t s
+  pub group_refusal : (g : ℕ) → read_body (groups_in t) s ≡ Some (body.GroupRefusal g) → Again t s
 
 -- a status 0 Confirm: "The writer still writes 40, so only a 40-octet Confirm is rewritten identically"
 pub record ConfirmAgain (t s : List ℕ) : Type 0 where
-  pub first : (n : ℕ) → read_body (groups_in t) s ≡ body.Confirm n → (out : List ℕ) → Copied (take 40 s) out (writes_from t (parts_in (groups_in t) s) out)
-  pub confirm : (n : ℕ) → read_body (groups_in t) s ≡ body.Confirm n → length s ≡ 40 → Again t s
-  pub only : (n : ℕ) → read_body (groups_in t) s ≡ body.Confirm n → Again t s → length s ≡ 40
+  pub first : (n : ℕ) → read_body (groups_in t) s ≡ Some (body.Confirm n) → (out : List ℕ) → Copied (take 40 s) out (writes_from t (parts_in (groups_in t) s) out)
+  pub confirm : (n : ℕ) → read_body (groups_in t) s ≡ Some (body.Confirm n) → length s ≡ 40 → Again t s
+  pub only : (n : ℕ) → read_body (groups_in t) s ≡ Some (body.Confirm n) → Again t s → length s ≡ 40
 
 -- ---- what is written reads back
 

@@ -1,40 +1,29 @@
 -- The writer: from a frame's parts, or from a record; what it answers and what it leaves of the lent buffer.
-use Rattle.std.specs.Prelude.{◌≡◌, List, ℕ, ◌≤◌, length, take, if◌then◌else◌}
+use Rattle.std.specs.Prelude.{◌≡◌, List, ℕ, ◌≤◌, length, take, if◌then◌else◌, Result, Ok, Err, Option, Some, None}
 use Rattle.groups.specs.Groups.{width, commit_length}
 use Rattle.frame.specs.Writing.{Drawn, Outside, draw_commit, draw_confirm, parts_body, written, leaves}
-use Rattle.frame.specs.declared.Written.{Written}
-use Rattle.frame.specs.declared.Written.TheVariants as written_is
 use Rattle.record.specs.declared.Peer.{Peer}
 use Rattle.record.specs.Layout.{decode_peer, record_size, groups_of}
 use Rattle.table.specs.Table.{decode_table, slot, sound, entry}
-use Rattle.table.specs.declared.Entry.{Entry}
-use Rattle.table.specs.declared.Entry.TheVariants.{Unsound, Unusable, Absent, At}
 use Rattle.rules.specs.Book.{◌is◌, ◌isnt◌}
-use Rattle.answers.specs.declared.Refusal.{Refusal}
-use Rattle.answers.specs.declared.Refusal.TheVariants as why
-use Rattle.writer.specs.declared.Wrote.{Wrote}
-use Rattle.writer.specs.declared.Wrote.TheVariants as wrote
+use Rattle.causes.specs.declared.Refusal.{Refusal}
+use Rattle.causes.specs.declared.Refusal.TheVariants as why
 
 -- what a writer answers and leaves of the buffer
 pub record LeftOut : Type 0 where
-  pub answer : Wrote
+  pub answer : Result ℕ Refusal
   pub out : List ℕ
 
-pub record LeavesOut (r : Wrote) (u : List ℕ) (l : LeftOut) : Type 0 where
+pub record LeavesOut (r : Result ℕ Refusal) (u : List ℕ) (l : LeftOut) : Type 0 where
   pub answer : r ≡ l.answer
   pub out : u ≡ l.out
 
 abbrev pub refuse_out : List ℕ → Refusal → LeftOut
-refuse_out out c = record { answer = wrote.Refused c; out = out }
+refuse_out out c = record { answer = Err c; out = out }
 
--- outside the shapes is 7, longer than the buffer 11
-abbrev pub wrote_of : Written → Wrote
-wrote_of (written_is.Length n) = wrote.Length n
-wrote_of written_is.Shape = wrote.Refused why.Body
-wrote_of written_is.Short = wrote.Refused why.Short
-
+-- outside the shapes is 7, longer than the buffer 11: as the frame's writer has it
 unfoldable pub draws : Drawn → List ℕ → LeftOut
-draws d out = record { answer = wrote_of (written d out); out = leaves d out }
+draws d out = record { answer = written d out; out = leaves d out }
 
 -- ---- from a frame's parts: causes 2, 7, 11
 
@@ -74,11 +63,10 @@ pub record Bounded (s : List ℕ) (W : ℕ) : Type 0 where
   pub token : ((decode_peer W s).run.state ≡ 0 → ⊥) → (decode_peer W s).run.toklen ≤ 256
   pub own : ((decode_peer W s).run.state ≡ 0 → ⊥) → commit_length (decode_peer W s).run.group ≤ W
 
-unfoldable pub writes_record_by : Entry → List ℕ → ℕ → List ℕ → List ℕ → LeftOut
-writes_record_by Unsound t sequence value out = refuse_out out why.Unsound
-writes_record_by Unusable t sequence value out = refuse_out out why.Address
-writes_record_by Absent t sequence value out = refuse_out out why.Body
-writes_record_by (At k) t sequence value out = draws (record_body (groups_of (decode_table t).header) (slot (decode_table t) k) sequence value) out
+unfoldable pub writes_record_by : Result (Option ℕ) Refusal → List ℕ → ℕ → List ℕ → List ℕ → LeftOut
+writes_record_by (Err c) t sequence value out = refuse_out out c
+writes_record_by (Ok None) t sequence value out = refuse_out out why.Body
+writes_record_by (Ok (Some k)) t sequence value out = draws (record_body (groups_of (decode_table t).header) (slot (decode_table t) k) sequence value) out
 
 unfoldable pub writes_record : List ℕ → List ℕ → ℕ → List ℕ → List ℕ → LeftOut
 writes_record t address sequence value out = writes_record_by (entry t address) t sequence value out

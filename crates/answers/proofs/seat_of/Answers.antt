@@ -1,8 +1,6 @@
-use Rattle.answers.proofs.Laws.{seating-old, seating-new}
+use Rattle.std.proofs.Common.{rules}
+use Rattle.answers.proofs.Laws.{seating-or}
 use Rattle.answers.proofs.seat_of.Goals as goal
 
-pub returns-in-At : goal.returns-in-At
-returns-in-At c = seating-old _ _ _ c.in-At.is
-
-pub returns-in-Nothing : goal.returns-in-Nothing
-returns-in-Nothing c = seating-new _ _ _ c.in-Nothing.is c.free_slot.ensures
+pub returns : goal.returns
+returns c = seating-or _ _ _ _ (λ p. search rules) c.or_else.ensures

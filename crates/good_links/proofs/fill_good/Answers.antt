@@ -16,15 +16,15 @@ counts_below-counts-requires c = countable-reaches _ _ c.is_countable.ensures (a
 pub set_good-requires : goal.set_good-requires
 set_good-requires c = countable-long _ _ c.is_countable.ensures (ap not c.if-not-is_countable.false)
 
-pub set_good-requires-then-not-filled : goal.set_good-requires-then-not-filled
-set_good-requires-then-not-filled c = counted-long _ _ c.is_countable.ensures (ap not c.if-not-is_countable.false) _ _ c.set_good.ensures
+pub set_good-requires-then-not-is_sound : goal.set_good-requires-then-not-is_sound
+set_good-requires-then-not-is_sound c = counted-long _ _ c.is_countable.ensures (ap not c.if-not-is_countable.false) _ _ c.set_good.ensures
 
-pub returns-then-not-filled : goal.returns-then-not-filled
-returns-then-not-filled c = fill-put-back c.args.t.now _ c.is_countable.ensures (ap not c.if-not-is_countable.false) _ _ _ _ (λ i. search rules) c.header_of-h.ensures
+pub returns-then-not-is_sound : goal.returns-then-not-is_sound
+returns-then-not-is_sound c = fill-put-back c.args.t.now _ c.is_countable.ensures (ap not c.if-not-is_countable.false) _ _ _ _ (λ i. search rules) c.header_of-h.ensures
     (fill-counted _ _ c.is_countable.ensures (ap not c.if-not-is_countable.false) _ _ _ c.header_of-h.ensures c.counts_below-counts.ensures.1.1 c.set_good.ensures)
-    c.set_good-then-not-filled.ensures c.is_sound-filled.ensures (ap not c.if-not-filled.true)
+    c.set_good-then-not-is_sound.ensures c.is_sound.ensures (ap not c.if-not-is_sound.true)
 
-pub returns-else-not-filled : goal.returns-else-not-filled
-returns-else-not-filled c = fill-kept c.args.t.now _ c.is_countable.ensures (ap not c.if-not-is_countable.false) _ _
+pub returns : goal.returns
+returns c = fill-kept c.args.t.now _ c.is_countable.ensures (ap not c.if-not-is_countable.false) _ _
     (fill-counted _ _ c.is_countable.ensures (ap not c.if-not-is_countable.false) _ _ _ c.header_of-h.ensures c.counts_below-counts.ensures.1.1 c.set_good.ensures)
-    c.is_sound-filled.ensures (ap not c.if-not-filled.false)
+    c.is_sound.ensures (ap not c.if-not-is_sound.false)

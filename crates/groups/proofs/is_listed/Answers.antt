@@ -1,8 +1,6 @@
-use Rattle.octets.specs.Scan.{is_nothing}
-use mathlib.Core.Bool.{not}
-use mathlib.Core.Path.{sym, ap, ◌∙◌}
+use Rattle.std.proofs.Common.{sym, ap, ◌∙◌, is_some}
 use Rattle.groups.proofs.Laws.{listed-place}
 use Rattle.groups.proofs.is_listed.Goals as goal
 
 pub returns : goal.returns
-returns c = sym (listed-place _ _ ∙ ap (λ f. not (is_nothing f)) (sym c.place_of-found.ensures) ∙ ap not (sym c.is_nothing.ensures))
+returns c = c.is_some.ensures ∙ ap (λ f. is_some f) c.place_of.ensures ∙ sym (listed-place _ _)

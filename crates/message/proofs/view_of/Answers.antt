@@ -29,6 +29,3 @@ returns-in-Confirm c = view-law _ (body.Confirm _) _ c.in-Confirm.is c.confirm_v
 
 pub returns-in-OtherConfirm : goal.returns-in-OtherConfirm
 returns-in-OtherConfirm c = view-law _ (body.OtherConfirm _) _ c.in-OtherConfirm.is c.confirm_view-in-OtherConfirm.ensures
-
-pub returns-in-Malformed : goal.returns-in-Malformed
-returns-in-Malformed c = view-law _ body.Malformed _ c.in-Malformed.is c.unread.ensures

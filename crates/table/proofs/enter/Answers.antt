@@ -1,14 +1,16 @@
-use mathlib.Core.Path.{refl}
-use Rattle.table.proofs.Laws.{sound-long, sound-by, looked-whole, entered-unsound}
-use Rattle.std.proofs.Common.{ap}
-use Rattle.std.specs.Prelude.{not}
+use Rattle.std.proofs.Common.{ap, not, sym, ◌∙◌}
+use Rattle.table.proofs.Laws.{looked, looked-sized, entering-refused, entering-unusable, entering-found}
+use Rattle.causes.proofs.Laws.{handed-on}
 use Rattle.table.proofs.enter.Goals as goal
 
-pub returns-then-not-is_sound : goal.returns-then-not-is_sound
-returns-then-not-is_sound c = entered-unsound _ _ _ _ refl c.is_sound.ensures (ap not c.if-not-is_sound.true)
+pub returns-then-not-is_usable : goal.returns-then-not-is_usable
+returns-then-not-is_usable c = entering-unusable _ _ _ _ (looked _ _ (sym c.check.ensures ∙ c.in_ok-header.was)) c.is_usable.ensures (ap not c.if-not-is_usable.true)
 
-pub header_of-h-requires : goal.header_of-h-requires
-header_of-h-requires c = sound-long _ (sound-by _ _ c.is_sound.ensures (ap not c.if-not-is_sound.false))
+pub find-slot-requires : goal.find-slot-requires
+find-slot-requires c = looked-sized _ c.in_ok-header.header (looked _ _ (sym c.check.ensures ∙ c.in_ok-header.was)) _ c.width_of-w.ensures.0 c.width_of-w.ensures.1
 
-pub entry_of-entry-requires : goal.entry_of-entry-requires
-entry_of-entry-requires c = looked-whole _ _ _ c.is_sound.ensures (ap not c.if-not-is_sound.false) c.header_of-h.ensures
+pub returns : goal.returns
+returns c = entering-found _ _ _ _ _ (looked _ _ (sym c.check.ensures ∙ c.in_ok-header.was)) c.is_usable.ensures (ap not c.if-not-is_usable.false) c.find-slot.ensures
+
+pub returns-in_err-header : goal.returns-in_err-header
+returns-in_err-header c = handed-on _ _ c.from_residual.ensures.1 ∙ entering-refused _ _ _ (sym c.check.ensures ∙ c.in_err-header.was)

@@ -1,0 +1,2 @@
+-- The crate's law.
+pub mod Laws

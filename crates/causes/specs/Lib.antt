@@ -1,0 +1,2 @@
+-- What the contracts that speak of refusals cite.
+pub mod Causes
