@@ -9,12 +9,13 @@ use native.Mathlib.Nat.{mul-suc, mul-le-mul_left, mul-div_cancel}
 use lib.Dec.{eqb}
 use lib.ListN.{length, take, drop, get_or, length-drop, take-append-drop}
 use lib.Seq.{length-take-le}
-use borrow.Author.Tests.{eq-eqb, ne_eqb, not-true}
+use borrow.Author.Tests.{eq-eqb, ne_eqb}
 use Rattle.octets.specs.Octets.{all_zero}
 use Rattle.octets.proofs.Scan.{clash, and_left, and_right}
 use Rattle.octets.proofs.Tests.{zero_is}
-use Rattle.groups.specs.Groups.{width, known, listed, commit_length, stored, place_from, place, place_or0, index_of, fresh_of, fresh_at, fresh_for, tails_ok, fresh_ok}
+use Rattle.groups.specs.Groups.{width, known, listed, commit_length, stored, place, index_of, fresh_of, fresh_at, fresh_for, tails_ok, fresh_ok}
 use Rattle.groups.proofs.Laws.{commit-fits, listed-place, place_at}
+use Rattle.rule_laws.proofs.Keeps.{index-nth}
 use Rattle.groups.proofs.Fresh.{fresh-length, fresh-width}
 use Rattle.soundness.specs.Soundness.{each_once}
 use Rattle.soundness.proofs.Laws.{header-groups, listed-known}
@@ -36,20 +37,6 @@ listed_at (x ∷ xs) (suc i) g l e = or-true (eqb x g) (listed_at xs i g (omega 
     or-true : (b : Bool) {c : Bool} → c ≡ true → (b || c) ≡ true
     or-true true e = refl
     or-true false e = e
-
-place_of : (gs : List ℕ) (i j g : ℕ) → each_once gs ≡ true → i < length gs → get_or gs i 0 ≡ g → place_from gs j g ≡ Some (j + i)
-unfolding place_from each_once
-place_of [] i j g o l e = absurd (omega arith)
-place_of (x ∷ xs) zero j g o l e = rw (eq-eqb x g e) (let z : j ≡ j + 0 = omega arith in ap Some z)
-place_of (x ∷ xs) (suc i) j g o l e =
-    let k : i < length xs = omega arith in
-    let n : eqb x g ≡ false = ne_eqb x g (λ q. clash (listed_at xs i x k (e ∙ sym q)) (not-true _ (and_left _ _ o))) in
-    let z : suc j + i ≡ j + suc i = omega arith in
-    rw n (place_of xs i (suc j) g (and_right (not (listed xs x)) _ o) k e ∙ ap Some z)
-
-index-of : (gs : List ℕ) (i g : ℕ) → each_once gs ≡ true → i < length gs → get_or gs i 0 ≡ g → index_of gs g ≡ i
-unfolding index_of place
-index-of gs i g o l e = ap place_or0 (place_of gs i 0 g o l e) ∙ (let z : 0 + i ≡ i = omega arith in z)
 
 -- ---- tails
 
@@ -101,7 +88,7 @@ module _ (W : ℕ) (gs s : List ℕ) (low : 1 ≤ W) (high : W ≤ width) (some 
   unfolding fresh_for
   afresh-at c e i g l q = record {
     some = known_some g (listed_at gs i g l q);
-    stock = rw (same-stock c e, index-of gs i g o l q) refl;
+    stock = rw (same-stock c e, index-nth gs i g o l q) refl;
     padded = padded-at i g l q;
   }
 
@@ -115,7 +102,7 @@ module _ (W : ℕ) (gs s : List ℕ) (low : 1 ≤ W) (high : W ≤ width) (some 
     group = λ g l.
         let f = found_at g (place gs g) refl l in
         let q = place_at gs g f.0 f.1 in
-        subst (Afresh gs c g) (rw (same-stock c e, index-of gs f.0 g o q.0 q.1) refl) (afresh-at c e f.0 g q.0 q.1);
+        subst (Afresh gs c g) (rw (same-stock c e, index-nth gs f.0 g o q.0 q.1) refl) (afresh-at c e f.0 g q.0 q.1);
     place = λ i g l q. subst (λ (x : List (List ℕ)). Afresh gs c g (fresh_at x i)) (sym (same-stock c e)) (afresh-at c e i g l q);
   }
 

@@ -119,6 +119,10 @@ pub data Entered (t a : List ℕ) : Option ℕ → Type 0 where
   old : {k : ℕ} → entry t a ≡ Ok (Some k) → Entered t a (Some k)
   new : entry t a ≡ Ok None → Entered t a None
 
+pub came : (t a : List ℕ) (f : Option ℕ) → entry t a ≡ Ok f → Entered t a f
+came t a (Some k) e = old e
+came t a None e = new e
+
 pub entered-seated : (t a : List ℕ) (f : Option ℕ) → Entered t a f → Seated t f
 entered-seated t a f (old {k} e) = seated-at t a k e
 entered-seated t a f (new e) = seated-absent t a e

@@ -1,25 +1,24 @@
 -- The clock: which record is due, and its step.
-use Rattle.std.specs.Prelude.{Option, Some, None}
+use Rattle.std.specs.Prelude.{Option, Some, None, Err}
 use mathlib.Core.Path.{◌≡◌, refl, sym, ap, ◌∙◌, subst}
 use mathlib.Core.Bool.{Bool, true, false, not}
 use mathlib.Core.List.{List, []}
 use Prim.Native.Nat.{ℕ, ◌<◌}
 use lib.ListN.{replicate}
-use borrow.Author.Tests.{not-true}
 use Rattle.octets.specs.Octets.{Bytes}
 use Rattle.octets.specs.Scan.{first_below}
 use Rattle.octets.proofs.Scan.{first-at}
 use Rattle.record.specs.declared.Header.{Header}
 use Rattle.record.specs.Layout.{groups_of}
-use Rattle.table.specs.Table.{Table, decode_table, encode_table, recounted, slots, slot, sound, Looked}
-use Rattle.table.proofs.Laws.{looked-sound, looked-header}
+use Rattle.table.specs.Table.{Table, decode_table, encode_table, recounted, slots, slot, checked, Looked}
+use Rattle.table.proofs.Laws.{unsound}
 use Rattle.table.proofs.Kept.{recounted-again}
 use Rattle.rules.specs.declared.Given.{Given}
 use Rattle.rules.specs.declared.Said.{Said}
 use Rattle.rules.specs.Book.{expired, on_clock}
 use Rattle.rules.specs.Given.{terms, call}
 use Rattle.rule_laws.proofs.Slots.{clock-seated}
-use Rattle.causes.specs.declared.Refusal.TheVariants as why
+use Rattle.causes.specs.declared.Refusal.{Refusal}
 use Rattle.answers.specs.Answers.{Told, Left, Leaves, ends, seating, refused, none_due, answered, finishes}
 use Rattle.calls.specs.Calls.{clock_of, brings, due_slot, clock_step, expires_by, expires}
 use Rattle.engine.specs.InSlot.{Held, given_by, DoesAt}
@@ -45,18 +44,18 @@ served t h k H u v a time g x r ea eg d w =
     ∙ (λ i. on_clock (terms (given_by h (ea i) time (replicate 32 0) false) (groups_of h)) (call (sym G i) []) (slot (decode_table t) k))
     ∙ (λ i. on_clock (terms (sym G i) (groups_of h)) (call g []) (slot (decode_table t) k))) d w)
 
-pub expire-unsound : (t : List ℕ) (time : ℕ) (b : Bool) (r : Told) → b ≡ sound t → not b ≡ true → r ≡ refused why.Unsound → Leaves r t (expires t time)
+pub expire-unsound : (t : List ℕ) (time : ℕ) (c : Refusal) (r : Told) → checked t ≡ Err c → r ≡ refused c → Leaves r t (expires t time)
 unfolding expires
-expire-unsound t time b r e q er = let z : sound t ≡ false = sym e ∙ not-true b q in rw z (record { answer = er; table = refl })
+expire-unsound t time c r e er = let z = unsound t c e in rw z.0 (record { answer = er ∙ ap refused z.1; table = refl })
 
-module _ (t : List ℕ) (time : ℕ) (b : Bool) (h : Header) (L : Looked t b h) (q : not b ≡ false) (d : Option ℕ) (ed : d ≡ due_slot (decode_table t) time) where
+module _ (t : List ℕ) (time : ℕ) (h : Header) (L : Looked t h) (d : Option ℕ) (ed : d ≡ due_slot (decode_table t) time) where
   expires-by : (x : Option ℕ) → d ≡ x → expires t time ≡ expires_by x t time
   unfolding expires
-  expires-by x e = let z : sound t ≡ true = looked-sound t b h L q in let w : due_slot (decode_table t) time ≡ x = sym ed ∙ e in rw (z, w) refl
+  expires-by x e = let w : due_slot (decode_table t) time ≡ x = sym ed ∙ e in rw (L.whole, w) refl
 
   pub expire-none : (r : Told) → Bytes t → d ≡ None → r ≡ none_due → Leaves r t (expires t time)
   unfolding expires_by ends
-  expire-none r y e er = subst (λ (l : Left). Leaves r t l) (sym (expires-by None e)) (record { answer = er; table = sym (recounted-again t y (looked-sound t b h L q)) })
+  expire-none r y e er = subst (λ (l : Left). Leaves r t l) (sym (expires-by None e)) (record { answer = er; table = sym (recounted-again t y L.whole) })
 
   below : (k : ℕ) → d ≡ Some k → k < slots (decode_table t)
   unfolding due_slot
@@ -65,8 +64,8 @@ module _ (t : List ℕ) (time : ℕ) (b : Bool) (h : Header) (L : Looked t b h) 
   pub expire-held : (k : ℕ) → d ≡ Some k → Held t h (Some k)
   expire-held k e =
       record {
-        seated = record { whole = looked-sound t b h L q; below = λ j z. let y : k ≡ j = cc in subst (λ (i : ℕ). i < slots (decode_table t)) y (below k e) };
-        header = looked-header t b h L q;
+        seated = record { whole = L.whole; below = λ j z. let y : k ≡ j = cc in subst (λ (i : ℕ). i < slots (decode_table t)) y (below k e) };
+        header = L.header;
       }
 
   pub expire-at : (k : ℕ) (r : Told) (u : List ℕ) → d ≡ Some k → Leaves r u (finishes t (Some k) (clock_step (decode_table t) k time) (slot (decode_table t) k).address) → Leaves r u (expires t time)

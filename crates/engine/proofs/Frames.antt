@@ -9,7 +9,7 @@ use lib.ListN.{length, take}
 use lib.Seq.{take_all}
 use borrow.Author.Tests.{eq-eqb, ne_eqb, lt-ltb, le-ltb, eqb-true}
 use Rattle.octets.specs.Octets.{Bytes, part}
-use Rattle.std.specs.Prelude.{if◌then◌else◌, Option, Some, None, Result, Ok, Err}
+use Rattle.std.specs.Prelude.{if◌then◌else◌, Option, Some, None, Result, Ok, Err, ok_or}
 use Rattle.octets.proofs.Scan.{clash}
 use Rattle.groups.specs.Groups.{Storable, fresh_of, fresh_ok}
 use Rattle.record.specs.declared.Header.{Header}
@@ -27,18 +27,20 @@ use Rattle.rules.specs.Given.{terms, call}
 use Rattle.rules.specs.Said.{Does, saying}
 use Rattle.rule_laws.proofs.Slots.{frame-seated}
 use Rattle.message.specs.declared.View.{View}
-use Rattle.message.specs.View.{view, message_of, message}
-use Rattle.message.proofs.Laws.{message-storable}
+use Rattle.message.specs.View.{view, read_view, message_of, message}
+use Rattle.message.proofs.Laws.{view-read, view-unread, message-storable}
 use Rattle.causes.specs.declared.Refusal.{Refusal}
 use Rattle.causes.specs.declared.Refusal.TheVariants as why
 use Rattle.answers.specs.Answers.{Told, Leaves, ends, refuse, seating, refused, said, answered, finish_at, finishes}
 use Rattle.answers.proofs.Laws.{clashed, turned-refused, turned-go}
 use Rattle.calls.specs.Calls.{terms_of, clock_of, brings, fresh_in, admit_frame, frame_turn, frame_step, receives}
-use Rattle.engine.specs.declared.Admitted.{Admitted}
-use Rattle.engine.specs.InSlot.{Held, Met, Listing, Stocks, Fitting, is_unsound, is_unusable, found_in, given_by, slotless, Brought, refused_frame, AdmitsFrame, TakesFrame, DoesAt, answers_outside}
-use Rattle.engine.proofs.Headers.{enters-met}
+use Rattle.engine.specs.InSlot.{Held, Stocks, Fitting, given_by, slotless, Brought, AdmitsFrame, DoesAt, answers_outside}
+use Rattle.engine.proofs.Headers.{entered-held}
 use Rattle.engine.proofs.Windows.{look-seat, seat-done}
 use Rattle.engine.proofs.Starts.{seat-none, seated-terms, unseated-terms, brought, stock-tested, stocks}
+
+unrefused : {c : Refusal} {v : View} {X : Type 0} → ◌≡◌ {A = Result View Refusal} (Err c) (Ok v) → X
+unrefused e = let z : ◌≡◌ {A = ℕ} 0 1 = cc in absurd (omega arith)
 
 -- ---- causes 4, 5, 6, 7
 
@@ -51,125 +53,65 @@ admission W gs f frame fresh expected verdict =
     else if (view gs frame).sequence is 0 then Err why.Body
     else Ok f
 
-module _ (h : Header) (f : Option ℕ) (frame fresh expected : List ℕ) (verdict : ℕ) where
-  admitted : (r : Result (Option ℕ) Refusal) → r ≡ admission (width_in h) (groups_of h) f frame fresh expected verdict → (T : Table) → h ≡ T.header → r ≡ admit_frame T f frame fresh expected verdict
-  unfolding admit_frame
-  admitted r q T e = q ∙ ap (λ (g : Header). admission (width_in g) (groups_of g) f frame fresh expected verdict) e
+module _ (h : Header) (frame fresh expected : List ℕ) (verdict : ℕ) where
+  abbrev admits : Option ℕ → Result (Option ℕ) Refusal
+  admits f = admission (width_in h) (groups_of h) f frame fresh expected verdict
 
-  refuses : (r : Admitted) (c : Refusal) → r ≡ refused_frame c → Err c ≡ admission (width_in h) (groups_of h) f frame fresh expected verdict → AdmitsFrame r h f frame fresh expected verdict
+  admitted : (f : Option ℕ) (x : Result (Option ℕ) Refusal) → admits f ≡ x → (T : Table) → h ≡ T.header → admit_frame T f frame fresh expected verdict ≡ x
+  unfolding admit_frame
+  admitted f x q T e = ap (λ (g : Header). admission (width_in g) (groups_of g) f frame fresh expected verdict) (sym e) ∙ q
+
+  refuses : (r : Result View Refusal) (c : Refusal) → r ≡ Err c → ((f : Option ℕ) → admits f ≡ Err c) → AdmitsFrame r h frame fresh expected verdict
   refuses r c e q =
       record {
-        turn = admitted r.turn (ap (λ (x : Admitted). x.turn) e ∙ q);
-        view = λ k z. clashed (sym (ap (λ (x : Admitted). x.turn) e) ∙ z);
-        short = subst (λ (x : Admitted). x.view.toklen ≤ 256) (sym e) (lit≤ tt);
+        refuses = λ d z T f i. let w : c ≡ d = cc in admitted f (Err d) (q f ∙ ap Err w) T i;
+        goes = λ v z. unrefused (sym e ∙ z);
+        view = λ v z. unrefused (sym e ∙ z);
+        short = λ v z. unrefused (sym e ∙ z);
       }
 
-  module _ (w : ℕ) (b : Bool) (ew : w ≡ width_in h) (eb : b ≡ fresh_ok w (groups_of h) fresh) (r : Admitted) where
-    pub frame-stock : not b ≡ true → r ≡ refused_frame why.Fresh → AdmitsFrame r h f frame fresh expected verdict
-    frame-stock q e = let z = stock-tested h fresh w b true ew eb q in refuses r why.Fresh e (rw z refl)
+  module _ (w : ℕ) (gs : List ℕ) (b : Bool) (ew : w ≡ width_in h) (eg : gs ≡ groups_of h) (eb : b ≡ fresh_ok w gs fresh) (r : Result View Refusal) where
+    tested : (x : Bool) → not b ≡ x → not (fresh_ok (width_in h) (groups_of h) fresh) ≡ x
+    tested x q = stock-tested h fresh w b x ew (eb ∙ ap (λ (y : List ℕ). fresh_ok w y fresh) eg) q
 
-    pub frame-token : not b ≡ false → (length expected ≡ 32 → ⊥) → r ≡ refused_frame why.Token → AdmitsFrame r h f frame fresh expected verdict
-    frame-token q d e = let z = stock-tested h fresh w b false ew eb q in refuses r why.Token e (rw (z, ne_eqb _ _ d) refl)
+    pub frame-stock : not b ≡ true → r ≡ Err why.Fresh → AdmitsFrame r h frame fresh expected verdict
+    frame-stock q e = let z = tested true q in refuses r why.Fresh e (λ f. rw z refl)
 
-    pub frame-verdict : not b ≡ false → length expected ≡ 32 → 1 < verdict → r ≡ refused_frame why.Verdict → AdmitsFrame r h f frame fresh expected verdict
-    frame-verdict q d v e =
-        let z = stock-tested h fresh w b false ew eb q in
-        refuses r why.Verdict e (rw (z, eq-eqb _ _ d, lt-ltb _ _ v) refl)
+    pub frame-token : not b ≡ false → (length expected ≡ 32 → ⊥) → r ≡ Err why.Token → AdmitsFrame r h frame fresh expected verdict
+    frame-token q d e = let z = tested false q in refuses r why.Token e (λ f. rw (z, ne_eqb _ _ d) refl)
 
-    module _ (seen : View) (es : (seen ≡ view (groups_of h) frame) × (seen.toklen ≤ 256)) where
-      pub frame-body : not b ≡ false → length expected ≡ 32 → verdict ≤ 1 → seen.sequence ≡ 0 → r ≡ refused_frame why.Body → AdmitsFrame r h f frame fresh expected verdict
+    pub frame-verdict : not b ≡ false → length expected ≡ 32 → 1 < verdict → r ≡ Err why.Verdict → AdmitsFrame r h frame fresh expected verdict
+    frame-verdict q d v e = let z = tested false q in refuses r why.Verdict e (λ f. rw (z, eq-eqb _ _ d, lt-ltb _ _ v) refl)
+
+    -- the body, and the view of it that the reader hands on
+    module _ (qs : List ℕ) (o : Option View) (es : qs ≡ groups_of h) (eo : o ≡ read_view qs frame) where
+      read-is : o ≡ read_view (groups_of h) frame
+      read-is = eo ∙ ap (λ (y : List ℕ). read_view y frame) es
+
+      pub frame-body : not b ≡ false → length expected ≡ 32 → verdict ≤ 1 → o ≡ None → r ≡ Err why.Body → AdmitsFrame r h frame fresh expected verdict
       frame-body q d v n e =
-          let z = stock-tested h fresh w b false ew eb q in
-          let y : eqb (view (groups_of h) frame).sequence 0 ≡ true = eq-eqb _ _ (ap (λ (x : View). x.sequence) (sym es.0) ∙ n) in
-          refuses r why.Body e (rw (z, eq-eqb _ _ d, le-ltb _ _ v, y) refl)
+          let z = tested false q in
+          let y : eqb (view (groups_of h) frame).sequence 0 ≡ true = eq-eqb _ _ (view-unread (groups_of h) frame (sym read-is ∙ n)) in
+          refuses r why.Body e (λ f. rw (z, eq-eqb _ _ d, le-ltb _ _ v, y) refl)
 
-      pub frame-go : not b ≡ false → length expected ≡ 32 → verdict ≤ 1 → (seen.sequence ≡ 0 → ⊥) → r ≡ record { turn = Ok f; view = seen } → AdmitsFrame r h f frame fresh expected verdict
-      frame-go q d v n e =
-          let z = stock-tested h fresh w b false ew eb q in
-          let y : eqb (view (groups_of h) frame).sequence 0 ≡ false = ne_eqb _ _ (λ i. n (ap (λ (x : View). x.sequence) es.0 ∙ i)) in
+      pub frame-go : (seen : View) → not b ≡ false → length expected ≡ 32 → verdict ≤ 1 → o ≡ Some seen → r ≡ Ok seen → AdmitsFrame r h frame fresh expected verdict
+      frame-go seen q d v n e =
+          let z = tested false q in
+          let s = view-read (groups_of h) frame seen (sym read-is ∙ n) in
+          let y : eqb (view (groups_of h) frame).sequence 0 ≡ false = ne_eqb _ _ (λ i. s.1 (ap (λ (x : View). x.sequence) s.0 ∙ i)) in
           record {
-            turn = admitted r.turn (ap (λ (x : Admitted). x.turn) e ∙ rw (z, eq-eqb _ _ d, le-ltb _ _ v, y) refl);
-            view = λ k i. ap (λ (x : Admitted). x.view) e ∙ es.0;
-            short = subst (λ (x : Admitted). x.view.toklen ≤ 256) (sym e) es.1;
+            refuses = λ c i. unrefused (sym i ∙ e);
+            goes = λ x i T f j. admitted f (Ok f) (rw (z, eq-eqb _ _ d, le-ltb _ _ v, y) refl) T j;
+            view = λ x i. let k : seen ≡ x = cc in sym k ∙ s.0;
+            short = λ x i. let k : seen ≡ x = cc in subst (λ (u : View). u.toklen ≤ 256) k s.2;
           }
 
--- ---- the listed groups by a number that is the count
-
-module _ (h : Header) {n : ℕ} (en : n ≡ h.settings.count) where
-  pub counted-fresh : (w : ℕ) (fresh : List ℕ) {b : Bool} → b ≡ fresh_ok w (take n h.settings.groups) fresh → b ≡ fresh_ok w (groups_of h) fresh
-  counted-fresh w fresh q = q ∙ ap (λ (k : ℕ). fresh_ok w (take k h.settings.groups) fresh) en
-
-  pub counted-view : (frame : List ℕ) {seen : View} → (seen ≡ view (take n h.settings.groups) frame) × (seen.toklen ≤ 256) → (seen ≡ view (groups_of h) frame) × (seen.toklen ≤ 256)
-  counted-view frame q = (q.0 ∙ ap (λ (k : ℕ). view (take k h.settings.groups) frame) en, q.1)
-
--- ---- which entry a frame met
-
-module _ (h : Header) (frame fresh expected : List ℕ) (verdict : ℕ) (r : Admitted) (E : Result (Option ℕ) Refusal) where
-  pub takes-refused : (x : Result (Option ℕ) Refusal) (c : Refusal) → E ≡ x → ((t : List ℕ) → frame_turn x t frame fresh expected verdict ≡ Err c) → r ≡ refused_frame c → TakesFrame r h E frame fresh expected verdict
-  takes-refused x c q z e =
-      record {
-        turn = λ t M. ap (λ (y : Admitted). y.turn) e ∙ sym (z t) ∙ ap (λ (y : Result (Option ℕ) Refusal). frame_turn y t frame fresh expected verdict) (sym q);
-        view = λ k i. clashed (sym (ap (λ (y : Admitted). y.turn) e) ∙ i);
-        short = subst (λ (y : Admitted). y.view.toklen ≤ 256) (sym e) (lit≤ tt);
-      }
-
-  pub takes-unsound : E ≡ Err why.Unsound → r ≡ refused_frame why.Unsound → TakesFrame r h E frame fresh expected verdict
-  unfolding frame_turn
-  takes-unsound q e = takes-refused (Err why.Unsound) why.Unsound q (λ t. refl) e
-
-  pub takes-unusable : E ≡ Err why.Address → r ≡ refused_frame why.Address → TakesFrame r h E frame fresh expected verdict
-  unfolding frame_turn
-  takes-unusable q e = takes-refused (Err why.Address) why.Address q (λ t. refl) e
-
-  pub takes-absent : E ≡ Ok None → AdmitsFrame r h None frame fresh expected verdict → TakesFrame r h E frame fresh expected verdict
-  unfolding frame_turn
-  takes-absent q A =
-      record {
-        turn = λ t M. A.turn (decode_table t) (M.absent q).header ∙ ap (λ (y : Result (Option ℕ) Refusal). frame_turn y t frame fresh expected verdict) (sym q);
-        view = A.view;
-        short = A.short;
-      }
-
-  pub takes_at : (k : ℕ) → E ≡ Ok (Some k) → AdmitsFrame r h (Some k) frame fresh expected verdict → TakesFrame r h E frame fresh expected verdict
-  unfolding frame_turn
-  takes_at k q A =
-      record {
-        turn = λ t M. A.turn (decode_table t) (M.here k q).header ∙ ap (λ (y : Result (Option ℕ) Refusal). frame_turn y t frame fresh expected verdict) (sym q);
-        view = A.view;
-        short = A.short;
-      }
-
--- by the entry taken apart
-pub takes-if-unsound : (r : Admitted) (h : Header) (E : Result (Option ℕ) Refusal) (frame fresh expected : List ℕ) (verdict : ℕ) (b : Bool) → b ≡ is_unsound E → b ≡ true
-    → r ≡ refused_frame why.Unsound → TakesFrame r h E frame fresh expected verdict
-takes-if-unsound r h (Err why.Unsound) frame fresh expected verdict b e q k = takes-unsound h frame fresh expected verdict r (Err why.Unsound) refl k
-takes-if-unsound r h (Err why.Address) frame fresh expected verdict b e q k = absurd (clash (sym e ∙ q) refl)
-takes-if-unsound r h (Ok None) frame fresh expected verdict b e q k = absurd (clash (sym e ∙ q) refl)
-takes-if-unsound r h (Ok (Some i)) frame fresh expected verdict b e q k = absurd (clash (sym e ∙ q) refl)
-
-pub takes-if-unusable : (r : Admitted) (h : Header) (E : Result (Option ℕ) Refusal) (frame fresh expected : List ℕ) (verdict : ℕ) (b : Bool) → b ≡ is_unusable E → b ≡ true
-    → r ≡ refused_frame why.Address → TakesFrame r h E frame fresh expected verdict
-takes-if-unusable r h (Err why.Unsound) frame fresh expected verdict b e q k = absurd (clash (sym e ∙ q) refl)
-takes-if-unusable r h (Err why.Address) frame fresh expected verdict b e q k = takes-unusable h frame fresh expected verdict r (Err why.Address) refl k
-takes-if-unusable r h (Ok None) frame fresh expected verdict b e q k = absurd (clash (sym e ∙ q) refl)
-takes-if-unusable r h (Ok (Some i)) frame fresh expected verdict b e q k = absurd (clash (sym e ∙ q) refl)
-
--- neither unsound nor unusable
-module _ (h : Header) (frame fresh expected : List ℕ) (verdict : ℕ) (a b : Bool) where
-  pub takes-found : (r : Admitted) (E : Result (Option ℕ) Refusal) (f : Option ℕ) → a ≡ is_unsound E → a ≡ false → b ≡ is_unusable E → b ≡ false → f ≡ found_in E
-      → AdmitsFrame r h f frame fresh expected verdict → TakesFrame r h E frame fresh expected verdict
-  takes-found r (Err why.Unsound) f p u q v e A = absurd (clash p u)
-  takes-found r (Err why.Address) f p u q v e A = absurd (clash q v)
-  takes-found r (Ok None) f p u q v e A =
-      takes-absent h frame fresh expected verdict r (Ok None) refl (subst (λ (x : Option ℕ). AdmitsFrame r h x frame fresh expected verdict) e A)
-  takes-found r (Ok (Some k)) f p u q v e A =
-      takes_at h frame fresh expected verdict r (Ok (Some k)) k refl (subst (λ (x : Option ℕ). AdmitsFrame r h x frame fresh expected verdict) e A)
-
-pub listing-header : (h : Header) (E : Result (Option ℕ) Refusal) (a b : Bool) → Listing h E → a ≡ is_unsound E → a ≡ false → b ≡ is_unusable E → b ≡ false → header_ok h ≡ true
-listing-header h (Err why.Unsound) a b L p u q v = absurd (clash p u)
-listing-header h (Err why.Address) a b L p u q v = absurd (clash q v)
-listing-header h (Ok None) a b L p u q v = L.absent refl
-listing-header h (Ok (Some k)) a b L p u q v = L.here k refl
+      pub frame-read : not b ≡ false → length expected ≡ 32 → verdict ≤ 1 → r ≡ ok_or o why.Body → AdmitsFrame r h frame fresh expected verdict
+      frame-read q d v e = go o refl e
+        where
+          go : (x : Option View) → o ≡ x → r ≡ ok_or x why.Body → AdmitsFrame r h frame fresh expected verdict
+          go (Some seen) n e = frame-go seen q d v n e
+          go None n e = frame-body q d v n e
 
 -- a frame that goes on
 pub record Gone (t : List ℕ) (h : Header) (f : Option ℕ) (fresh expected : List ℕ) : Type 0 where
@@ -191,18 +133,12 @@ goes T f g frame fresh expected verdict e =
     go true true false true q = clashed q
     go true true false false q = (refl, (refl, cc))
 
-pub frame-goes : (t : List ℕ) (h : Header) (frame fresh expected : List ℕ) (verdict : ℕ) (E : Result (Option ℕ) Refusal) (f : Option ℕ) → Met t h E → frame_turn E t frame fresh expected verdict ≡ Ok f → Gone t h f fresh expected
-unfolding frame_turn
-frame-goes t h frame fresh expected verdict (Err why.Unsound) f M e = clashed e
-frame-goes t h frame fresh expected verdict (Err why.Address) f M e = clashed e
-frame-goes t h frame fresh expected verdict (Ok None) f M e =
-    let w = goes (decode_table t) None f frame fresh expected verdict e in
-    let H = subst (Held t h) w.1.1 (M.absent refl) in
-    record { held = H; stock = stocks t h f fresh H w.0; token = eqb-true _ _ w.1.0 }
-frame-goes t h frame fresh expected verdict (Ok (Some k)) f M e =
-    let w = goes (decode_table t) (Some k) f frame fresh expected verdict e in
-    let H = subst (Held t h) w.1.1 (M.here k refl) in
-    record { held = H; stock = stocks t h f fresh H w.0; token = eqb-true _ _ w.1.0 }
+pub frame-goes : (t : List ℕ) (h : Header) (frame fresh expected : List ℕ) (verdict : ℕ) (f g : Option ℕ) → Held t h f → admit_frame (decode_table t) f frame fresh expected verdict ≡ Ok g
+    → Gone t h g fresh expected
+frame-goes t h frame fresh expected verdict f g H e =
+    let w = goes (decode_table t) f g frame fresh expected verdict e in
+    let G = subst (Held t h) w.1.1 H in
+    record { held = G; stock = stocks t h g fresh G w.0; token = eqb-true _ _ w.1.0 }
 
 -- the expected token by value
 pub token-all : (s r : List ℕ) → length s ≡ 32 → r ≡ part s 0 32 → r ≡ s
@@ -229,9 +165,9 @@ module _ (s : Step) (a : List ℕ) (x : Said) (r : Told) (e : x ≡ saying s) wh
       go false i = refl
 
 -- the rule on a free record says what the step of the free record says, with the header's width
-pub outside-says : (h : Header) (g : Given) (m : Message) (w : ℕ) (fresh s left : List ℕ) (x : Said) → w ≡ width_in h → decode_peer w s ≡ no_peer
-    → Does w x left (on_frame (terms g (groups_of h)) (call g (fresh_of w fresh)) (decode_peer w s) m) → x ≡ saying (on_frame (terms g (groups_of h)) (call g (fresh_in h fresh)) no_peer m)
-outside-says h g m w fresh s left x ew e d = d.says ∙ (λ i. saying (on_frame (terms g (groups_of h)) (call g (fresh_of (ew i) fresh)) (e i) m))
+pub outside-says : (h : Header) (g : Given) (m : Message) (w : ℕ) (gs fresh s left : List ℕ) (x : Said) → w ≡ width_in h → gs ≡ groups_of h → decode_peer w s ≡ no_peer
+    → Does w x left (on_frame (terms g gs) (call g (fresh_of w fresh)) (decode_peer w s) m) → x ≡ saying (on_frame (terms g (groups_of h)) (call g (fresh_in h fresh)) no_peer m)
+outside-says h g m w gs fresh s left x ew eg e d = d.says ∙ (λ i. saying (on_frame (terms g (eg i)) (call g (fresh_of (ew i) fresh)) (e i) m))
 
 -- no slot: the table stays
 outside-leaves : (t : List ℕ) (f : Option ℕ) (s : Step) (a : List ℕ) (r : Told) → Bytes t → sound t ≡ true → seating (decode_table t) f ≡ None → r ≡ answers_outside s a → Leaves r t (finishes t f s a)
@@ -293,26 +229,33 @@ frame-fitting h frame w ok e l =
 pub given-brought : (h : Header) (a : List ℕ) (time : ℕ) (expected : List ℕ) (v : Bool) (g : Given) → g ≡ given_by h a time expected v → Brought g h
 given-brought h a time expected v g e = subst (λ (x : Given). Brought x h) (sym e) (brought h a time expected v)
 
-pub receive-goes : (t a frame fresh expected : List ℕ) (verdict : ℕ) (e : Entrance) → Enters e t a → (A : Admitted) → TakesFrame A e.header e.entry frame fresh expected verdict
-    → (f : Option ℕ) → A.turn ≡ Ok f → Gone t e.header f fresh expected
-receive-goes t a frame fresh expected verdict e E A K f q = frame-goes t e.header frame fresh expected verdict e.entry f (enters-met t a e E) (sym (K.turn t (enters-met t a e E)) ∙ q)
+pub receive-goes : (t a frame fresh expected : List ℕ) (verdict : ℕ) (e : Entrance) → Enters e t a → (A : Result View Refusal) → AdmitsFrame A e.header frame fresh expected verdict → (v : View) → A ≡ Ok v
+    → Gone t e.header e.slot fresh expected
+receive-goes t a frame fresh expected verdict e E A K v q = frame-goes t e.header frame fresh expected verdict e.slot e.slot (entered-held t a e E) (K.goes v q (decode_table t) e.slot E.looked.header)
 
--- the call, by what its entry came to
-module _ (t a : List ℕ) (time : ℕ) (frame fresh expected : List ℕ) (verdict : ℕ) (e : Entrance) (E : Enters e t a) (A : Admitted)
-    (K : TakesFrame A e.header e.entry frame fresh expected verdict) (r : Told) where
-  turn_is : A.turn ≡ frame_turn (entry t a) t frame fresh expected verdict
-  turn_is = K.turn t (enters-met t a e E) ∙ ap (λ (y : Result (Option ℕ) Refusal). frame_turn y t frame fresh expected verdict) E.entry
+-- the call, by what its address came to
+module _ (t a : List ℕ) (time : ℕ) (frame fresh expected : List ℕ) (verdict : ℕ) (r : Told) where
+  pub receive-unentered : (c : Refusal) → entry t a ≡ Err c → r ≡ refused c → Leaves r t (receives t a time frame fresh expected verdict)
+  unfolding receives frame_turn
+  receive-unentered c e z = turned-refused _ _ t a (Err c) (sym (ap (λ (y : Result (Option ℕ) Refusal). frame_turn y t frame fresh expected verdict) e)) r c refl z
 
-  pub receive-refused : (c : Refusal) → A.turn ≡ Err c → r ≡ refused c → Leaves r t (receives t a time frame fresh expected verdict)
-  unfolding receives
-  receive-refused c q z = turned-refused _ _ t a A.turn turn_is r c q z
+  module _ (e : Entrance) (E : Enters e t a) (A : Result View Refusal) (K : AdmitsFrame A e.header frame fresh expected verdict) where
+    turn_of : (x : Result (Option ℕ) Refusal) → admit_frame (decode_table t) e.slot frame fresh expected verdict ≡ x → x ≡ frame_turn (entry t a) t frame fresh expected verdict
+    unfolding frame_turn
+    turn_of x q = sym q ∙ ap (λ (y : Result (Option ℕ) Refusal). frame_turn y t frame fresh expected verdict) (sym E.entry)
 
-  pub receive-went : (f : Option ℕ) (token : List ℕ) (g : Given) (u : List ℕ) → A.turn ≡ Ok f → token ≡ expected → g ≡ given_by e.header a time token (verdict is 1)
-      → Leaves r u (finishes t f (on_frame (terms_of (decode_table t) f) (call g (fresh_in e.header fresh)) (look_by (decode_table t) f) (message_of frame A.view)) g.address) → Leaves r u (receives t a time frame fresh expected verdict)
-  unfolding receives
-  receive-went f token g u q et eg l =
-      let G = receive-goes t a frame fresh expected verdict e E A K f q in
-      let S = frame_is t f a time frame fresh expected token verdict e.header A.view g G.held.header (K.view f q) et eg in
-      let L : Leaves r u (finishes t f (frame_step (decode_table t) f a time frame fresh expected verdict) a) = subst (λ (x : List ℕ). Leaves r u (finishes t f (frame_step (decode_table t) f a time frame fresh expected verdict) x)) (ap (λ (x : Given). x.address) eg)
-      (subst (λ (x : Step). Leaves r u (finishes t f x g.address)) S l) in
-      turned-go _ _ t a A.turn turn_is r f _ u q refl L
+    pub receive-refused : (c : Refusal) → A ≡ Err c → r ≡ refused c → Leaves r t (receives t a time frame fresh expected verdict)
+    unfolding receives
+    receive-refused c q z = turned-refused _ _ t a (Err c) (turn_of (Err c) (K.refuses c q (decode_table t) e.slot E.looked.header)) r c refl z
+
+    module _ (v : View) (q : A ≡ Ok v) where
+      pub receive-went : (token : List ℕ) (g : Given) (u : List ℕ) → token ≡ expected → g ≡ given_by e.header a time token (verdict is 1)
+          → Leaves r u (finishes t e.slot (on_frame (terms_of (decode_table t) e.slot) (call g (fresh_in e.header fresh)) (look_by (decode_table t) e.slot) (message_of frame v)) g.address)
+          → Leaves r u (receives t a time frame fresh expected verdict)
+      unfolding receives
+      receive-went token g u et eg l =
+          let S = frame_is t e.slot a time frame fresh expected token verdict e.header v g E.looked.header (K.view v q) et eg in
+          let L : Leaves r u (finishes t e.slot (frame_step (decode_table t) e.slot a time frame fresh expected verdict) a) =
+          subst (λ (x : List ℕ). Leaves r u (finishes t e.slot (frame_step (decode_table t) e.slot a time frame fresh expected verdict) x)) (ap (λ (x : Given). x.address) eg)
+          (subst (λ (x : Step). Leaves r u (finishes t e.slot x g.address)) S l) in
+          turned-go _ _ t a (Ok e.slot) (turn_of (Ok e.slot) (K.goes v q (decode_table t) e.slot E.looked.header)) r e.slot _ u refl refl L

@@ -2,7 +2,7 @@
 use Rattle.std.specs.Prelude.{Option, Some, None, Result, Ok}
 use mathlib.Core.Path.{◌≡◌, refl, sym, ap, ◌∙◌, subst}
 use mathlib.Core.Logic.{◌⊎◌, inl, inr}
-use mathlib.Core.Bool.{true}
+use mathlib.Core.Bool.{Bool, true}
 use mathlib.Core.List.{List}
 use Prim.Native.Nat.{ℕ, ◌+◌, ◌-◌, ◌*◌, ◌^◌, ◌≤◌, ◌<◌}
 use native.Mathlib.Nat.{lt_of_le_of_lt, mul-le-mul}
@@ -31,15 +31,19 @@ use Rattle.table.proofs.Laws.{entry-found, sound-header, sound-peer, sound-whole
 use Rattle.table.proofs.Fit.{fit-slot, fit-decoded}
 use Rattle.table.proofs.Octets.{window-law, window-length}
 use Rattle.rules.specs.declared.Clock.{Clock}
+use Rattle.rules.specs.Message.{Message}
 use Rattle.rules.specs.Given.{Paced, Whole, Stocked, Ready}
 use Rattle.message.specs.declared.View.{View}
 use Rattle.message.specs.View.{message_of}
 use Rattle.answers.specs.Answers.{Seated, seating}
-use Rattle.answers.proofs.Laws.{Entered, old, new, entered-seated, seated-ready}
-use Rattle.engine.specs.InSlot.{Held, Met, Listing, Stocks, Fitting, Clocked}
+use Rattle.answers.proofs.Laws.{came, entered-seated, seated-ready}
+use Rattle.engine.specs.InSlot.{Held, Stocks, Fitting, Clocked}
 use Rattle.causes.specs.declared.Refusal.{Refusal}
 
 -- ---- the listed groups
+
+pub few-counted : (h : Header) → header_ok h ≡ true → h.settings.count ≤ 3
+few-counted h ok = omega (arith, header-count h ok)
 
 module _ (h : Header) (ok : header_ok h ≡ true) (three : length h.settings.groups ≡ 3) where
   pub count_fits : h.settings.count ≤ length h.settings.groups
@@ -47,16 +51,6 @@ module _ (h : Header) (ok : header_ok h ≡ true) (three : length h.settings.gro
 
   pub listed-count : h.settings.count ≡ length (take h.settings.count h.settings.groups)
   listed-count = sym (length-take-le h.settings.count h.settings.groups count_fits)
-
-  -- the same of a number that is the count
-  module _ {n : ℕ} (en : n ≡ h.settings.count) where
-    pub counted-fits : n ≤ length h.settings.groups
-    counted-fits = subst (λ (k : ℕ). k ≤ length h.settings.groups) (sym en) count_fits
-
-    pub counted-stock : {w : ℕ} → w ≡ width_in h → (1 ≤ w) × ((w ≤ width) × (length (take n h.settings.groups) ≤ 8))
-    counted-stock ew =
-        let l : length (take n h.settings.groups) ≡ n = length-take-le n h.settings.groups counted-fits in
-        (omega (arith, ew, header-width h ok), (omega (arith, ew, form-width h.geometry.size), omega (arith, l, en, header-count h ok)))
 
   module _ (w : ℕ) (ew : w ≡ width_in h) where
     -- what the test of the stock asks
@@ -72,6 +66,20 @@ module _ (h : Header) (ok : header_ok h ≡ true) (three : length h.settings.gro
           few = omega (arith, listed-count, header-count h ok);
           each = fresh-length w (groups_of h) fresh (ap (λ (W : ℕ). fresh_ok W (groups_of h) fresh) ew ∙ e);
         }
+
+-- the same of the slice in which they are lent
+module _ (w : ℕ) (gs hs fresh : List ℕ) (e : gs ≡ hs) where
+  pub listed-asks : (1 ≤ w) × ((w ≤ width) × (length hs ≤ 8)) → (1 ≤ w) × ((w ≤ width) × (length gs ≤ 8))
+  listed-asks a = subst (λ (l : List ℕ). (1 ≤ w) × ((w ≤ width) × (length l ≤ 8))) (sym e) a
+
+  pub listed-stocked : Stocked w hs fresh → Stocked w gs fresh
+  listed-stocked s = subst (λ (l : List ℕ). Stocked w l fresh) (sym e) s
+
+  pub listed-ready : (κ : Clock) (s : List ℕ) (m : Message) → Ready κ w s hs fresh m → Ready κ w s gs fresh m
+  listed-ready κ s m r = subst (λ (l : List ℕ). Ready κ w s l fresh m) (sym e) r
+
+  pub listed-fresh : (b : Bool) → b ≡ fresh_ok w gs fresh → b ≡ fresh_ok w hs fresh
+  listed-fresh b q = q ∙ ap (λ (l : List ℕ). fresh_ok w l fresh) e
 
 -- ---- where the record is
 
@@ -101,20 +109,9 @@ held-ready t h k H = seated-ready t (Some k) k H.seated refl
 pub held-reached : (t : List ℕ) (h : Header) (k : ℕ) → Held t h (Some k) → (w : ℕ) → (w ≡ width_in h) × (w ≤ width) → Reached t w k
 held-reached t h k H w e = reached t h w k H.seated.whole H.header e.0 e.1 (H.seated.below k refl)
 
--- what an address came to
-module _ (t a : List ℕ) (r : Entrance) (E : Enters r t a) where
-  entered : (f : Option ℕ) → Entered t a f → sound t ≡ true → Held t r.header f
-  entered f e s = record { seated = entered-seated t a f e; header = E.header s }
-
-  pub enters-met : Met t r.header r.entry
-  enters-met =
-      record {
-        here = λ k q. let e : entry t a ≡ Ok (Some k) = sym E.entry ∙ q in entered (Some k) (old e) (entry-found t a (Some k) e).0;
-        absent = λ q. let e : entry t a ≡ Ok None = sym E.entry ∙ q in entered None (new e) (entry-found t a None e).0;
-      }
-
-pub met-listing : (t : List ℕ) (h : Header) (E : Result (Option ℕ) Refusal) → Met t h E → Listing h E
-met-listing t h E M = record { here = λ k q. held-header t h (Some k) (M.here k q); absent = λ q. held-header t h None (M.absent q) }
+-- what was entered
+pub entered-held : (t a : List ℕ) (e : Entrance) → Enters e t a → Held t e.header e.slot
+entered-held t a e E = record { seated = entered-seated t a e.slot (came t a e.slot E.entry); header = E.looked.header }
 
 -- ---- the clock: the longest delay that settings have, 1,000 × 2^11 ms, fits
 

@@ -13,8 +13,7 @@ use Rattle.record.specs.declared.Header.{Header}
 use Rattle.record.specs.declared.Settings.{Settings}
 use Rattle.record.specs.Layout.{groups_of, width_in, decode_peer, record_size, no_peer, no_run, period_of, limit_of}
 use Rattle.record.proofs.Windows.{no-peer-left}
-use Rattle.table.specs.Table.{Table, decode_table, encode_table, recounted, slot, look_by, entry, Enters}
-use Rattle.table.specs.declared.Entrance.{Entrance}
+use Rattle.table.specs.Table.{Table, decode_table, encode_table, recounted, slot, look_by, entry}
 use Rattle.record.proofs.Laws.{wide-served}
 use Rattle.initial.specs.Initial.{made, initial_ok, initial}
 use Rattle.initial.proofs.Initial.{initial-ok-form, initial-recounted}
@@ -26,13 +25,16 @@ use Rattle.rules.specs.Book.{has_run, on_start}
 use Rattle.rules.specs.Given.{terms, call}
 use Rattle.rules.specs.Said.{Does, saying_frames}
 use Rattle.rule_laws.proofs.Slots.{start-refused, start-seated}
+use Rattle.causes.specs.Causes.{passes}
+use Rattle.causes.proofs.Laws.{passed, stopped}
 use Rattle.causes.specs.declared.Refusal.{Refusal}
 use Rattle.causes.specs.declared.Refusal.TheVariants as why
-use Rattle.answers.specs.Answers.{Told, Leaves, ends, seating, refused, quiet, answered, finishes, turned}
+use Rattle.answers.specs.declared.Answer.{Answer}
+use Rattle.answers.specs.Answers.{Told, telling, quiet_answer, Leaves, ends, seating, refused, quiet, answered, finishes, turned}
 use Rattle.answers.proofs.Laws.{clashed, full-refused, turned-refused, turned-go}
 use Rattle.calls.specs.Calls.{crowded, full, terms_of, clock_of, brings, fresh_in, initializes, admit_start, start_turn, start_step, initiates, kill_turn, kill_step, kills}
-use Rattle.engine.specs.InSlot.{Held, Met, Stocks, given_by, slotless, Clocked, Brought, DoesAt}
-use Rattle.engine.proofs.Headers.{held-header, enters-met, held-places}
+use Rattle.engine.specs.InSlot.{Held, Stocks, given_by, slotless, Clocked, Brought, DoesAt}
+use Rattle.engine.proofs.Headers.{held-header, held-places}
 use Rattle.engine.proofs.Windows.{look-seat, seat-done}
 
 -- ---- what a rule is given
@@ -118,10 +120,6 @@ module _ (t : List ℕ) (h : Header) (f : Option ℕ) (fresh : List ℕ) (w : �
       let y : has_run (look_by (decode_table t) f) ≡ false = rw (eq-eqb _ _ (sym e ∙ d)) refl in
       rw (of-table false q, y) refl
 
--- which entry a start met
-pub start-by : (t fresh : List ℕ) (E x : Result (Option ℕ) Refusal) (r : Result (Option ℕ) Refusal) → E ≡ x → r ≡ start_turn x t fresh → r ≡ start_turn E t fresh
-start-by t fresh E x r q w = w ∙ ap (λ (y : Result (Option ℕ) Refusal). start_turn y t fresh) (sym q)
-
 -- a start that goes on
 goes : (T : Table) (f g : Option ℕ) (fresh : List ℕ) → admit_start T f fresh ≡ Ok g → (fresh_ok (width_in T.header) (groups_of T.header) fresh ≡ true) × (f ≡ g)
 unfolding admit_start
@@ -137,18 +135,11 @@ pub stocks : (t : List ℕ) (h : Header) (f : Option ℕ) (fresh : List ℕ) →
 stocks t h f fresh H e =
     record { header = held-header t h f H; places = held-places t h f H; each = ap (λ (g : Header). fresh_ok (width_in g) (groups_of g) fresh) H.header ∙ e }
 
-pub start-goes : (t : List ℕ) (h : Header) (fresh : List ℕ) (E : Result (Option ℕ) Refusal) (f : Option ℕ) → Met t h E → start_turn E t fresh ≡ Ok f → Held t h f × Stocks h fresh
-unfolding start_turn
-start-goes t h fresh (Err why.Unsound) f M e = clashed e
-start-goes t h fresh (Err why.Address) f M e = clashed e
-start-goes t h fresh (Ok None) f M e =
-    let w = goes (decode_table t) None f fresh e in
-    let H = subst (Held t h) w.1 (M.absent refl) in
-    (H, stocks t h f fresh H w.0)
-start-goes t h fresh (Ok (Some k)) f M e =
-    let w = goes (decode_table t) (Some k) f fresh e in
-    let H = subst (Held t h) w.1 (M.here k refl) in
-    (H, stocks t h f fresh H w.0)
+pub start-goes : (t : List ℕ) (h : Header) (fresh : List ℕ) (f g : Option ℕ) → Held t h f → admit_start (decode_table t) f fresh ≡ Ok g → Held t h g × Stocks h fresh
+start-goes t h fresh f g H e =
+    let w = goes (decode_table t) f g fresh e in
+    let G = subst (Held t h) w.1 H in
+    (G, stocks t h g fresh G w.0)
 
 module _ (t : List ℕ) (h : Header) (f : Option ℕ) (H : Held t h f) (a : List ℕ) (time : ℕ) (fresh : List ℕ) (r : Told) where
   -- the step in the slot, finished
@@ -168,21 +159,24 @@ module _ (t : List ℕ) (h : Header) (f : Option ℕ) (H : Held t h f) (a : List
   unfolding start_step
   start-full g p q z = full-refused t a f _ r (start-refused _ _ _ ∙ (seat-none (decode_table t) f (sym p ∙ q)).1) z
 
-pub initiate-goes : (t a fresh : List ℕ) (e : Entrance) → Enters e t a → (w : Result (Option ℕ) Refusal) → w ≡ start_turn e.entry t fresh → (f : Option ℕ) → w ≡ Ok f → Held t e.header f × Stocks e.header fresh
-initiate-goes t a fresh e E w ew f q = start-goes t e.header fresh e.entry f (enters-met t a e E) (sym ew ∙ q)
+-- the call, by what its address came to
+module _ (t a : List ℕ) (time : ℕ) (fresh : List ℕ) (r : Told) where
+  pub initiate-unentered : (c : Refusal) → entry t a ≡ Err c → r ≡ refused c → Leaves r t (initiates t a time fresh)
+  unfolding initiates start_turn
+  initiate-unentered c e z = turned-refused _ _ t a (Err c) (sym (ap (λ (y : Result (Option ℕ) Refusal). start_turn y t fresh) e)) r c refl z
 
--- the call, by what its entry came to
-module _ (t a : List ℕ) (time : ℕ) (fresh : List ℕ) (e : Entrance) (E : Enters e t a) (w : Result (Option ℕ) Refusal) (ew : w ≡ start_turn e.entry t fresh) (r : Told) where
-  turn_is : w ≡ start_turn (entry t a) t fresh
-  turn_is = ew ∙ ap (λ (y : Result (Option ℕ) Refusal). start_turn y t fresh) E.entry
+  module _ (f : Option ℕ) (E : entry t a ≡ Ok f) (w : Result (Option ℕ) Refusal) (ew : w ≡ admit_start (decode_table t) f fresh) where
+    turn_is : w ≡ start_turn (entry t a) t fresh
+    unfolding start_turn
+    turn_is = ew ∙ ap (λ (y : Result (Option ℕ) Refusal). start_turn y t fresh) (sym E)
 
-  pub initiate-refused : (c : Refusal) → w ≡ Err c → r ≡ refused c → Leaves r t (initiates t a time fresh)
-  unfolding initiates
-  initiate-refused c q z = turned-refused _ _ t a w turn_is r c q z
+    pub initiate-refused : (c : Refusal) → w ≡ Err c → r ≡ refused c → Leaves r t (initiates t a time fresh)
+    unfolding initiates
+    initiate-refused c q z = turned-refused _ _ t a w turn_is r c q z
 
-  pub initiate-went : (f : Option ℕ) (u : List ℕ) → w ≡ Ok f → Leaves r u (finishes t f (start_step (decode_table t) f a time fresh) a) → Leaves r u (initiates t a time fresh)
-  unfolding initiates
-  initiate-went f u q l = turned-go _ _ t a w turn_is r f _ u q refl l
+    pub initiate-went : (g : Option ℕ) (u : List ℕ) → w ≡ Ok g → Leaves r u (finishes t g (start_step (decode_table t) g a time fresh) a) → Leaves r u (initiates t a time fresh)
+    unfolding initiates
+    initiate-went g u q l = turned-go _ _ t a w turn_is r g _ u q refl l
 
 -- ---- Kill
 
@@ -194,30 +188,46 @@ pub kill-seated : kill_step.refused ≡ false
 unfolding kill_step
 kill-seated = refl
 
--- which entry a kill met
-kills-by : (t a : List ℕ) (e x : Result (Option ℕ) Refusal) → e ≡ entry t a → e ≡ x → kills t a ≡ turned (kill_turn x) (λ f. kill_step) t a
-unfolding kills
-kills-by t a e x p q = ap (λ (y : Result (Option ℕ) Refusal). turned (kill_turn y) (λ f. kill_step) t a) (sym p ∙ q)
+-- the call, by what its address came to
+module _ (t a : List ℕ) (r : Told) where
+  kills-by : (x : Result (Option ℕ) Refusal) → entry t a ≡ x → kills t a ≡ turned (kill_turn x) (λ f. kill_step) t a
+  unfolding kills
+  kills-by x e = ap (λ (y : Result (Option ℕ) Refusal). turned (kill_turn y) (λ f. kill_step) t a) e
 
-pub kill-refused : (t a : List ℕ) (e x : Result (Option ℕ) Refusal) (c : Refusal) (r : Told) → e ≡ entry t a → e ≡ x → kill_turn x ≡ Err c → r ≡ refused c → Leaves r t (kills t a)
-unfolding turned
-kill-refused t a e x c r p q k er =
-    let z : kills t a ≡ record { answer = refused c; table = t } = kills-by t a e x p q ∙ ap (λ (w : Result (Option ℕ) Refusal). turned w (λ f. kill_step) t a) k in
-    subst (Leaves r t) (sym z) (record { answer = er; table = refl })
+  pub kill-refused : (x : Result (Option ℕ) Refusal) (c : Refusal) → entry t a ≡ x → kill_turn x ≡ Err c → r ≡ refused c → Leaves r t (kills t a)
+  unfolding turned
+  kill-refused x c e k er =
+      let z : kills t a ≡ record { answer = refused c; table = t } = kills-by x e ∙ ap (λ (w : Result (Option ℕ) Refusal). turned w (λ f. kill_step) t a) k in
+      subst (Leaves r t) (sym z) (record { answer = er; table = refl })
 
-pub kill-freed : (t a u : List ℕ) (e : Result (Option ℕ) Refusal) (k : ℕ) (r : Told) → e ≡ entry t a → e ≡ Ok (Some k) → Leaves r u (finishes t (Some k) kill_step a) → Leaves r u (kills t a)
-unfolding turned kill_turn
-kill-freed t a u e k r p q l = subst (Leaves r u) (sym (kills-by t a e (Ok (Some k)) p q)) l
+  pub kill-unentered : (c : Refusal) → entry t a ≡ Err c → r ≡ refused c → Leaves r t (kills t a)
+  unfolding kill_turn
+  kill-unentered c e er = kill-refused (Err c) c e refl er
+
+  pub kill-absent : (f : Option ℕ) → entry t a ≡ Ok f → f ≡ None → r ≡ refused why.NoRecord → Leaves r t (kills t a)
+  unfolding kill_turn
+  kill-absent f e n er = kill-refused (Ok None) why.NoRecord (e ∙ ap Ok n) refl er
+
+  pub kill-freed : (f : Option ℕ) (k : ℕ) (u : List ℕ) → entry t a ≡ Ok f → f ≡ Some k → Leaves r u (finishes t (Some k) kill_step a) → Leaves r u (kills t a)
+  unfolding turned kill_turn
+  kill-freed f k u e s l = subst (Leaves r u) (sym (kills-by (Ok (Some k)) (e ∙ ap Ok s))) l
 
 -- ---- Set up
 
-pub initialize-done : (t own u : List ℕ) (s : Settings) (b : Bool) (r : Told) → b ≡ initial_ok made s own (length t) → u ≡ initial made s own t → b ≡ true → r ≡ quiet own → Leaves r u (initializes made t own s)
-unfolding initializes initial ends
-initialize-done t own u s b r eb eu q er =
-    let z : initial_ok made s own (length t) ≡ true = sym eb ∙ q in
-    let n = initial-recounted made wide-served s own (length t) (initial-ok-form made s own (length t) z) in
-    rw z (record { answer = er; table = eu ∙ rw z (ap encode_table (sym n)) })
+pub quiet-told : (own : List ℕ) (a : Answer) → a ≡ quiet_answer own → telling a ≡ quiet own
+unfolding quiet
+quiet-told own a e = ap telling e
 
-pub initialize-refused : (t own u : List ℕ) (s : Settings) (b : Bool) (r : Told) → b ≡ initial_ok made s own (length t) → u ≡ initial made s own t → b ≡ false → r ≡ refused why.Settings → Leaves r u (initializes made t own s)
-unfolding initializes initial
-initialize-refused t own u s b r eb eu q er = let z : initial_ok made s own (length t) ≡ false = sym eb ∙ q in rw z (record { answer = er; table = eu ∙ rw z refl })
+module _ (t own u : List ℕ) (s : Settings) (w : Result (Unit {0}) Refusal) (r : Told) (ew : w ≡ passes (initial_ok made s own (length t)) why.Settings) (eu : u ≡ initial made s own t) where
+  pub initialize-done : (x : Unit {0}) → w ≡ Ok x → r ≡ quiet own → Leaves r u (initializes made t own s)
+  unfolding initializes initial ends
+  initialize-done x q er =
+      let z : initial_ok made s own (length t) ≡ true = passed _ _ x (sym ew ∙ q) in
+      let n = initial-recounted made wide-served s own (length t) (initial-ok-form made s own (length t) z) in
+      rw z (record { answer = er; table = eu ∙ rw z (ap encode_table (sym n)) })
+
+  pub initialize-refused : (c : Refusal) → w ≡ Err c → r ≡ refused c → Leaves r u (initializes made t own s)
+  unfolding initializes initial
+  initialize-refused c q er =
+      let z = stopped (initial_ok made s own (length t)) why.Settings c (sym ew ∙ q) in
+      rw z.0 (record { answer = er ∙ ap refused z.1; table = eu ∙ rw z.0 refl })

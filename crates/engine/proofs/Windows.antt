@@ -51,6 +51,10 @@ module _ (t : List ℕ) (h : Header) (k : ℕ) (H : Held t h (Some k)) where
   pub slot-changed : (u : List ℕ) (x : Said) (s : Step) (was : Standing) → length u ≡ length t → DoesAt x u t k s → was ≡ standing_of (slot (decode_table t) k) → Changed u k h was
   slot-changed u x s was l d e = rw e (changed t u k s.peer h (held-ready t h k H) H.header l d.leaves)
 
+-- the same step for the groups as they are lent
+pub listed-step : (x : Said) (u t : List ℕ) (k : ℕ) (S : List ℕ → Step) (gs hs : List ℕ) → gs ≡ hs → DoesAt x u t k (S gs) → DoesAt x u t k (S hs)
+listed-step x u t k S gs hs e d = subst (λ (l : List ℕ). DoesAt x u t k (S l)) e d
+
 -- the record of a seat: the slot's, which is free for a new peer
 pub look-seat : (t : List ℕ) (f : Option ℕ) (k : ℕ) → Bytes t → Seated t f → seating (decode_table t) f ≡ Some k → look_by (decode_table t) f ≡ slot (decode_table t) k
 unfolding look_by seating

@@ -11,12 +11,11 @@ use Rattle.rules.specs.declared.Said.{Said}
 use Rattle.rules.specs.Book.{Step}
 use Rattle.rules.specs.Said.{saying}
 use Rattle.message.specs.declared.View.{View}
-use Rattle.message.specs.View.{confirm_view, view, message_of}
+use Rattle.message.specs.View.{view, message_of}
 use Rattle.causes.specs.declared.Refusal.{Refusal}
 use Rattle.causes.specs.declared.Refusal.TheVariants as why
 use Rattle.answers.specs.Answers.{Told, Seated, refused, said}
-use Rattle.calls.specs.Calls.{crowded, clock_of, admit_frame, frame_turn}
-use Rattle.engine.specs.declared.Admitted.{Admitted}
+use Rattle.calls.specs.Calls.{crowded, clock_of, admit_frame}
 
 -- ---- what was loaded and tested once
 
@@ -24,35 +23,6 @@ use Rattle.engine.specs.declared.Admitted.{Admitted}
 pub record Held (t : List ℕ) (h : Header) (f : Option ℕ) : Type 0 where
   pub seated : Seated t f
   pub header : h ≡ (decode_table t).header
-
--- what an address came to
-pub record Met (t : List ℕ) (h : Header) (E : Result (Option ℕ) Refusal) : Type 0 where
-  pub here : (k : ℕ) → E ≡ Ok (Some k) → Held t h (Some k)
-  pub absent : E ≡ Ok None → Held t h None
-
--- a header that has the form, where the address has a record or may get one
-pub record Listing (h : Header) (E : Result (Option ℕ) Refusal) : Type 0 where
-  pub here : (k : ℕ) → E ≡ Ok (Some k) → header_ok h ≡ true
-  pub absent : E ≡ Ok None → header_ok h ≡ true
-
--- what an address came to, taken apart
-abbrev pub is_unsound : Result (Option ℕ) Refusal → Bool
-is_unsound (Err why.Unsound) = true
-is_unsound (Err why.Address) = false
-is_unsound (Ok None) = false
-is_unsound (Ok (Some k)) = false
-
-abbrev pub is_unusable : Result (Option ℕ) Refusal → Bool
-is_unusable (Err why.Unsound) = false
-is_unusable (Err why.Address) = true
-is_unusable (Ok None) = false
-is_unusable (Ok (Some k)) = false
-
-abbrev pub found_in : Result (Option ℕ) Refusal → Option ℕ
-found_in (Err why.Unsound) = None
-found_in (Err why.Address) = None
-found_in (Ok None) = None
-found_in (Ok (Some k)) = Some k
 
 -- the header of a sound table, and a fresh commit for each of its groups
 pub record Stocks (h : Header) (fresh : List ℕ) : Type 0 where
@@ -94,20 +64,13 @@ pub record Brought (g : Given) (h : Header) : Type 0 where
   pub crowded : g.crowded ≡ crowded h
   pub full : g.full ≡ false
 
--- a frame that is refused has no view
-abbrev pub refused_frame : Refusal → Admitted
-refused_frame c = record { turn = Err c; view = confirm_view 0 0 0 }
-
--- a frame is admitted as the definition has it, for every table with this header; and if so its view is handed on
-pub record AdmitsFrame (r : Admitted) (h : Header) (f : Option ℕ) (frame fresh expected : List ℕ) (verdict : ℕ) : Type 0 where
-  pub turn : (T : Table) → h ≡ T.header → r.turn ≡ admit_frame T f frame fresh expected verdict
-  pub view : (k : Option ℕ) → r.turn ≡ Ok k → r.view ≡ view (groups_of h) frame
-  pub short : r.view.toklen ≤ 256
-
-pub record TakesFrame (r : Admitted) (h : Header) (E : Result (Option ℕ) Refusal) (frame fresh expected : List ℕ) (verdict : ℕ) : Type 0 where
-  pub turn : (t : List ℕ) → Met t h E → r.turn ≡ frame_turn E t frame fresh expected verdict
-  pub view : (k : Option ℕ) → r.turn ≡ Ok k → r.view ≡ view (groups_of h) frame
-  pub short : r.view.toklen ≤ 256
+-- a frame is refused or admitted as the definition has it, for every table with this header and wherever the record is; and the view of one that is admitted is
+-- handed on
+pub record AdmitsFrame (r : Result View Refusal) (h : Header) (frame fresh expected : List ℕ) (verdict : ℕ) : Type 0 where
+  pub refuses : (c : Refusal) → r ≡ Err c → (T : Table) (f : Option ℕ) → h ≡ T.header → admit_frame T f frame fresh expected verdict ≡ Err c
+  pub goes : (v : View) → r ≡ Ok v → (T : Table) (f : Option ℕ) → h ≡ T.header → admit_frame T f frame fresh expected verdict ≡ Ok f
+  pub view : (v : View) → r ≡ Ok v → v ≡ view (groups_of h) frame
+  pub short : (v : View) → r ≡ Ok v → v.toklen ≤ 256
 
 -- ---- a step in a slot, and outside the table
 

@@ -4,36 +4,32 @@
 
 ghost use Rattle.std.specs.Prelude.{◌≡◌, [], length, true};
 ghost use Rattle.octets.specs.Scan.{first_below};
-ghost use Rattle.octets.specs.declared.Found.TheVariants.{At};
-ghost use Rattle.record.specs.Layout.{width_in, groups_of, no_peer};
+ghost use Rattle.record.specs.Layout.{groups_of, no_peer};
 ghost use Rattle.soundness.specs.Soundness.{header_ok};
 ghost use Rattle.table.specs.Table.{decode_table, slot, look_by, Reaches, Reached, Sized};
 ghost use Rattle.rules.specs.Book.{expired, on_start, on_frame, on_clock};
 ghost use Rattle.rules.specs.Given.{terms, call};
 ghost use Rattle.message.specs.View.{message_of};
-ghost use Rattle.answers.specs.Answers.{Leaves, finishes};
+ghost use Rattle.answers.specs.Answers.{Leaves, finishes, telling, told, told_if_due};
 ghost use Rattle.initial.specs.Initial.{made};
-ghost use Rattle.calls.specs.Calls.{terms_of, crowded, clock_of, fresh_in, initializes, admit_start, start_turn, start_step, initiates, kill_step, kills, receives, due_slot, clock_step, expires};
-ghost use Rattle.engine.specs.InSlot.{Held, Met, Stocks, Fitting, Listing, is_unsound, is_unusable, found_in, given_by, slotless, Clocked, Brought, refused_frame, AdmitsFrame, TakesFrame, DoesAt, answers_outside};
+ghost use Rattle.calls.specs.Calls.{terms_of, crowded, clock_of, fresh_in, initializes, admit_start, start_step, initiates, kill_step, kills, receives, due_slot, clock_step, expires};
+ghost use Rattle.engine.specs.InSlot.{Held, Stocks, Fitting, given_by, slotless, Clocked, Brought, AdmitsFrame, DoesAt, answers_outside};
 
-use answers::{Answer, Refusal, Turn};
+use answers::Answer;
+use causes::Refusal;
 use message::View;
-use octets::Found;
 use record::{Header, Settings, WIDE_RECORD};
 use rules::{Clock, Frames, Given, Said};
-use table::Entry;
 
 // The octets of the largest record.
 const MOST: usize = WIDE_RECORD;
 
 // Set up (also clears). Cause 1.
-pub fn initialize(t: &mut [u8], own: [u8; 6], settings: Settings) -> Answer
-    ensures { Leaves result t.new (initializes made t.old own settings) }
+pub fn initialize(t: &mut [u8], own: [u8; 6], settings: Settings) -> Result<Answer, Refusal>
+    ensures { Leaves (told result) t.new (initializes made t.old own settings) }
 {
-    if initial::write_initial(t, own, settings) {
-        return answers::say_nothing(own);
-    }
-    answers::refuse_with(Refusal::Settings)
+    initial::write_initial(t, own, settings)?;
+    Ok(answers::say_nothing(own))
 }
 
 // ---- what the header and a call give a rule
@@ -52,9 +48,9 @@ fn clock_of(h: Header, time: u32) -> Clock
     let period = record::period_of(h.settings.period);
     let limit = record::limit_of(h.settings.limit);
     Clock {
-        time: time,
-        period: period,
-        limit: limit,
+        time,
+        period,
+        limit,
     }
 }
 
@@ -66,13 +62,13 @@ fn given_of(h: Header, address: [u8; 6], time: u32, expected: [u8; 32], verified
     let crowded = is_crowded(h);
     let clock = clock_of(h, time);
     Given {
-        own: own,
-        crowded: crowded,
+        own,
+        crowded,
         full: false,
-        address: address,
-        clock: clock,
-        expected: expected,
-        verified: verified,
+        address,
+        clock,
+        expected,
+        verified,
     }
 }
 
@@ -80,116 +76,96 @@ fn given_of(h: Header, address: [u8; 6], time: u32, expected: [u8; 32], verified
 fn without_slot(g: Given) -> Given
     ensures { result ≡ slotless g }
 {
-    let own = g.own;
-    let address = g.address;
-    let clock = g.clock;
-    let expected = g.expected;
-    Given {
-        own: own,
-        crowded: g.crowded,
-        full: true,
-        address: address,
-        clock: clock,
-        expected: expected,
-        verified: g.verified,
-    }
+    Given { full: true, ..g }
 }
 
 // ---- Start
 
 // The state of the run that a call is about; 0 where the address has no record.
-fn state_of(t: &[u8], h: Header, f: Found) -> u8
+fn state_of(t: &[u8], h: Header, f: Option<usize>) -> u8
     requires { Held t.now h f }
     ensures { result ≡ (look_by (decode_table t.now) f).run.state }
 {
     let w = record::width_of(h);
     match f {
-        Found::At(k) => table::state_at(t, w, k),
-        Found::Nothing => 0,
+        Some(k) => table::state_at(t, w, k),
+        None => 0,
     }
 }
 
-// Causes 4 and 8.
-fn admit_start(t: &[u8], h: Header, f: Found, fresh: &[u8]) -> Turn
+// Causes 4 and 8; a start that they do not refuse goes on with the slot.
+fn admit_start(
+    t: &[u8],
+    h: Header,
+    f: Option<usize>,
+    fresh: &[u8],
+) -> Result<Option<usize>, Refusal>
     requires { Held t.now h f }
     ensures { result ≡ admit_start (decode_table t.now) f fresh.now }
 {
-    let list = h.settings.groups;
-    let n = h.settings.count as usize;
     let w = record::width_of(h);
-    if !groups::fresh_ok(&list[..n], fresh, w) {
-        return Turn::Refused(Refusal::Fresh);
+    let settings = h.settings;
+    if !groups::fresh_ok(settings.listed(), fresh, w) {
+        return Err(Refusal::Fresh);
     }
     let state = state_of(t, h, f);
     if state != 0 {
-        return Turn::Refused(Refusal::Running);
+        return Err(Refusal::Running);
     }
-    Turn::Go(f)
-}
-
-// Causes 2, 3, 4, 8.
-fn start_turn(t: &[u8], h: Header, entry: Entry, fresh: &[u8]) -> Turn
-    requires { Met t.now h entry }
-    ensures { result ≡ start_turn entry t.now fresh.now }
-{
-    match entry {
-        Entry::Unsound => Turn::Refused(Refusal::Unsound),
-        Entry::Unusable => Turn::Refused(Refusal::Address),
-        Entry::Absent => admit_start(t, h, Found::Nothing, fresh),
-        Entry::At(k) => admit_start(t, h, Found::At(k), fresh),
-    }
+    Ok(f)
 }
 
 // The rule for a start, in a slot.
 fn start_at(t: &mut [u8], k: usize, h: Header, g: Given, fresh: &[u8]) -> Said
-    requires { Held t.old h (At k) × (Stocks h fresh.now × Clocked g.clock h) }
+    requires { Held t.old h (Some k) × (Stocks h fresh.now × Clocked g.clock h) }
     ensures { DoesAt result t.new t.old k (on_start (terms g (groups_of h)) (call g (fresh_in h fresh.now)) (slot (decode_table t.old) k)) }
 {
-    let list = h.settings.groups;
-    let n = h.settings.count as usize;
+    let settings = h.settings;
     let w = record::width_of(h);
     let a = record::record_at(w, k);
     let e = a + record::record_size(w);
-    machine::on_start(&mut t[a..e], w, g, &list[..n], fresh)
+    machine::on_start(&mut t[a..e], w, g, settings.listed(), fresh)
 }
 
 // A start that causes 2, 3, 4 and 8 do not refuse. Cause 9.
-fn start(t: &mut [u8], h: Header, f: Found, address: [u8; 6], time: u32, fresh: &[u8]) -> Answer
+fn start(
+    t: &mut [u8],
+    h: Header,
+    f: Option<usize>,
+    address: [u8; 6],
+    time: u32,
+    fresh: &[u8],
+) -> Result<Answer, Refusal>
     requires { Held t.old h f × Stocks h fresh.now }
-    ensures { Leaves result t.new (finishes t.old f (start_step (decode_table t.old) f address time fresh.now) address) }
+    ensures { Leaves (told result) t.new (finishes t.old f (start_step (decode_table t.old) f address time fresh.now) address) }
 {
     let n = h.geometry.slots as usize;
     let w = record::width_of(h);
-    match answers::seat_of(t, w, n, f) {
-        Found::At(k) => {
-            let was = table::standing_of(t, w, k);
-            let none = [0u8; 32];
-            let g = given_of(h, address, time, none, false);
-            let said = start_at(t, k, h, g, fresh);
-            answers::finish_at(t, k, h, was, said, address)
-        }
-        Found::Nothing => answers::refuse_with(Refusal::Full),
-    }
+    let Some(k) = answers::seat_of(t, w, n, f) else {
+        return Err(Refusal::Full);
+    };
+    let was = table::standing_of(t, w, k);
+    let none = [0u8; 32];
+    let g = given_of(h, address, time, none, false);
+    let said = start_at(t, k, h, g, fresh);
+    Ok(answers::finish_at(t, k, h, was, said, address))
 }
 
 // Start. Causes 2, 3, 4, 8, 9.
-pub fn initiate(t: &mut [u8], address: [u8; 6], time: u32, fresh: &[u8]) -> Answer
-    ensures { Leaves result t.new (initiates t.old address time fresh.now) }
+pub fn initiate(t: &mut [u8], address: [u8; 6], time: u32, fresh: &[u8]) -> Result<Answer, Refusal>
+    ensures { Leaves (told result) t.new (initiates t.old address time fresh.now) }
 {
-    let e = table::enter(t, address);
-    let h = e.header;
-    let entry = e.entry;
-    match start_turn(t, h, entry, fresh) {
-        Turn::Refused(c) => answers::refuse_with(c),
-        Turn::Go(f) => start(t, h, f, address, time, fresh),
-    }
+    let entrance = table::enter(t, address)?;
+    let h = entrance.header;
+    let f = admit_start(t, h, entrance.slot, fresh)?;
+    start(t, h, f, address, time, fresh)
 }
 
 // ---- Kill
 
 // A record is freed, in its slot.
 fn kill_at(t: &mut [u8], k: usize, h: Header) -> Said
-    requires { Held t.old h (At k) }
+    requires { Held t.old h (Some k) }
     ensures { DoesAt result t.new t.old k kill_step }
 {
     let w = record::width_of(h);
@@ -201,8 +177,8 @@ fn kill_at(t: &mut [u8], k: usize, h: Header) -> Said
 
 // A kill that no cause refuses.
 fn free(t: &mut [u8], k: usize, h: Header, address: [u8; 6]) -> Answer
-    requires { Held t.old h (At k) }
-    ensures { Leaves result t.new (finishes t.old (At k) kill_step address) }
+    requires { Held t.old h (Some k) }
+    ensures { Leaves (telling result) t.new (finishes t.old (Some k) kill_step address) }
 {
     let w = record::width_of(h);
     let was = table::standing_of(t, w, k);
@@ -211,129 +187,41 @@ fn free(t: &mut [u8], k: usize, h: Header, address: [u8; 6]) -> Answer
 }
 
 // Kill (frees the record). Causes 2, 3, 10.
-pub fn kill(t: &mut [u8], address: [u8; 6]) -> Answer
-    ensures { Leaves result t.new (kills t.old address) }
+pub fn kill(t: &mut [u8], address: [u8; 6]) -> Result<Answer, Refusal>
+    ensures { Leaves (told result) t.new (kills t.old address) }
 {
-    let e = table::enter(t, address);
-    let h = e.header;
-    let entry = e.entry;
-    match entry {
-        Entry::Unsound => answers::refuse_with(Refusal::Unsound),
-        Entry::Unusable => answers::refuse_with(Refusal::Address),
-        Entry::Absent => answers::refuse_with(Refusal::NoRecord),
-        Entry::At(k) => free(t, k, h, address),
-    }
+    let entrance = table::enter(t, address)?;
+    let Some(k) = entrance.slot else {
+        return Err(Refusal::NoRecord);
+    };
+    Ok(free(t, k, entrance.header, address))
 }
 
 // ---- Frame received
 
-// Whether a frame goes on, and the view of its body if so.
-#[derive(Clone, Copy)]
-pub struct Admitted {
-    pub turn: Turn,
-    pub view: View,
-}
-
-fn refuse_frame(c: Refusal) -> Admitted
-    ensures { result ≡ refused_frame c }
-{
-    let view = message::unread();
-    Admitted {
-        turn: Turn::Refused(c),
-        view: view,
-    }
-}
-
-// Causes 4, 5, 6, 7.
+// Causes 4, 5, 6, 7; of a frame that they do not refuse, the view of its body.
 fn admit_frame(
     h: Header,
-    w: usize,
-    n: usize,
-    f: Found,
     body: &[u8],
     fresh: &[u8],
     expected: &[u8],
     verdict: u8,
-) -> Admitted
-    requires { (header_ok h ≡ true) × ((w ≡ width_in h) × (n ≡ h.settings.count)) }
-    ensures { AdmitsFrame result h f body.now fresh.now expected.now verdict }
-{
-    let list = h.settings.groups;
-    if !groups::fresh_ok(&list[..n], fresh, w) {
-        return refuse_frame(Refusal::Fresh);
-    }
-    if expected.len() != 32 {
-        return refuse_frame(Refusal::Token);
-    }
-    if verdict > 1 {
-        return refuse_frame(Refusal::Verdict);
-    }
-    let view = message::read(&list[..n], body);
-    if view.sequence == 0 {
-        return refuse_frame(Refusal::Body);
-    }
-    Admitted {
-        turn: Turn::Go(f),
-        view: view,
-    }
-}
-
-// What an address came to, taken apart, so that what follows for a record and for none is one call.
-fn is_unsound(entry: Entry) -> bool
-    ensures { result ≡ is_unsound entry }
-{
-    match entry {
-        Entry::Unsound => true,
-        Entry::Unusable => false,
-        Entry::Absent => false,
-        Entry::At(_k) => false,
-    }
-}
-
-fn is_unusable(entry: Entry) -> bool
-    ensures { result ≡ is_unusable entry }
-{
-    match entry {
-        Entry::Unsound => false,
-        Entry::Unusable => true,
-        Entry::Absent => false,
-        Entry::At(_k) => false,
-    }
-}
-
-fn found_in(entry: Entry) -> Found
-    ensures { result ≡ found_in entry }
-{
-    match entry {
-        Entry::Unsound => Found::Nothing,
-        Entry::Unusable => Found::Nothing,
-        Entry::Absent => Found::Nothing,
-        Entry::At(k) => Found::At(k),
-    }
-}
-
-// Causes 2, 3, 4, 5, 6, 7.
-fn frame_turn(
-    h: Header,
-    entry: Entry,
-    body: &[u8],
-    fresh: &[u8],
-    expected: &[u8],
-    verdict: u8,
-) -> Admitted
-    requires { Listing h entry }
-    ensures { TakesFrame result h entry body.now fresh.now expected.now verdict }
+) -> Result<View, Refusal>
+    requires { (header_ok h ≡ true) × (length h.settings.groups ≡ 3) }
+    ensures { AdmitsFrame result h body.now fresh.now expected.now verdict }
 {
     let w = record::width_of(h);
-    let n = h.settings.count as usize;
-    if is_unsound(entry) {
-        return refuse_frame(Refusal::Unsound);
+    let settings = h.settings;
+    if !groups::fresh_ok(settings.listed(), fresh, w) {
+        return Err(Refusal::Fresh);
     }
-    if is_unusable(entry) {
-        return refuse_frame(Refusal::Address);
+    if expected.len() != 32 {
+        return Err(Refusal::Token);
     }
-    let f = found_in(entry);
-    admit_frame(h, w, n, f, body, fresh, expected, verdict)
+    if verdict > 1 {
+        return Err(Refusal::Verdict);
+    }
+    message::read(settings.listed(), body).ok_or(Refusal::Body)
 }
 
 // The expected token, which has 32 octets.
@@ -348,54 +236,56 @@ fn token_of(expected: &[u8]) -> [u8; 32]
 
 // The rule for a frame, in a slot.
 fn frame_at(t: &mut [u8], k: usize, h: Header, g: Given, v: View, body: &[u8], fresh: &[u8]) -> Said
-    requires { Held t.old h (At k) × (Stocks h fresh.now × (Clocked g.clock h × Fitting h body.now v)) }
+    requires { Held t.old h (Some k) × (Stocks h fresh.now × (Clocked g.clock h × Fitting h body.now v)) }
     ensures { DoesAt result t.new t.old k (on_frame (terms g (groups_of h)) (call g (fresh_in h fresh.now)) (slot (decode_table t.old) k) (message_of body.now v)) }
 {
-    let list = h.settings.groups;
-    let n = h.settings.count as usize;
+    let settings = h.settings;
     let w = record::width_of(h);
     let a = record::record_at(w, k);
     let e = a + record::record_size(w);
-    machine::on_frame(&mut t[a..e], w, g, v, body, &list[..n], fresh)
+    machine::on_frame(&mut t[a..e], w, g, v, body, settings.listed(), fresh)
 }
 
 // No slot is free for a new peer: the rule works on a free record outside the table.
-fn hear_outside(h: Header, g: Given, v: View, body: &[u8], fresh: &[u8]) -> Answer
+fn hear_outside(h: Header, g: Given, v: View, body: &[u8], fresh: &[u8]) -> Result<Answer, Refusal>
     requires { Stocks h fresh.now × (Clocked g.clock h × Fitting h body.now v) }
-    ensures { result ≡ answers_outside (on_frame (terms g (groups_of h)) (call g (fresh_in h fresh.now)) no_peer (message_of body.now v)) g.address }
+    ensures { told result ≡ answers_outside (on_frame (terms g (groups_of h)) (call g (fresh_in h fresh.now)) no_peer (message_of body.now v)) g.address }
 {
-    let list = h.settings.groups;
-    let n = h.settings.count as usize;
+    let settings = h.settings;
     let address = g.address;
     let w = record::width_of(h);
     let size = record::record_size(w);
     let mut s = [0u8; MOST];
-    let said = machine::on_frame(&mut s[..size], w, g, v, body, &list[..n], fresh);
+    let said = machine::on_frame(&mut s[..size], w, g, v, body, settings.listed(), fresh);
     if said.refused {
-        return answers::refuse_with(Refusal::Full);
+        return Err(Refusal::Full);
     }
-    answers::say(said, address)
+    Ok(answers::say(said, address))
 }
 
 // A frame that causes 2 to 7 do not refuse. Cause 9.
-fn hear(t: &mut [u8], h: Header, f: Found, g: Given, v: View, body: &[u8], fresh: &[u8]) -> Answer
+fn hear(
+    t: &mut [u8],
+    h: Header,
+    f: Option<usize>,
+    g: Given,
+    v: View,
+    body: &[u8],
+    fresh: &[u8],
+) -> Result<Answer, Refusal>
     requires { Held t.old h f × (Stocks h fresh.now × (Brought g h × Fitting h body.now v)) }
-    ensures { Leaves result t.new (finishes t.old f (on_frame (terms_of (decode_table t.old) f) (call g (fresh_in h fresh.now)) (look_by (decode_table t.old) f) (message_of body.now v)) g.address) }
+    ensures { Leaves (told result) t.new (finishes t.old f (on_frame (terms_of (decode_table t.old) f) (call g (fresh_in h fresh.now)) (look_by (decode_table t.old) f) (message_of body.now v)) g.address) }
 {
     let n = h.geometry.slots as usize;
     let w = record::width_of(h);
-    match answers::seat_of(t, w, n, f) {
-        Found::At(k) => {
-            let was = table::standing_of(t, w, k);
-            let said = frame_at(t, k, h, g, v, body, fresh);
-            let address = g.address;
-            answers::finish_at(t, k, h, was, said, address)
-        }
-        Found::Nothing => {
-            let slotless = without_slot(g);
-            hear_outside(h, slotless, v, body, fresh)
-        }
-    }
+    let Some(k) = answers::seat_of(t, w, n, f) else {
+        let slotless = without_slot(g);
+        return hear_outside(h, slotless, v, body, fresh);
+    };
+    let was = table::standing_of(t, w, k);
+    let said = frame_at(t, k, h, g, v, body, fresh);
+    let address = g.address;
+    Ok(answers::finish_at(t, k, h, was, said, address))
 }
 
 // Frame received. Causes 2, 3, 4, 5, 6, 7, 9.
@@ -407,23 +297,15 @@ pub fn receive(
     fresh: &[u8],
     expected: &[u8],
     verdict: u8,
-) -> Answer
-    ensures { Leaves result t.new (receives t.old address time body.now fresh.now expected.now verdict) }
+) -> Result<Answer, Refusal>
+    ensures { Leaves (told result) t.new (receives t.old address time body.now fresh.now expected.now verdict) }
 {
-    let e = table::enter(t, address);
-    let h = e.header;
-    let entry = e.entry;
-    let a = frame_turn(h, entry, body, fresh, expected, verdict);
-    let view = a.view;
-    let turn = a.turn;
-    match turn {
-        Turn::Refused(c) => answers::refuse_with(c),
-        Turn::Go(f) => {
-            let token = token_of(expected);
-            let g = given_of(h, address, time, token, verdict == 1);
-            hear(t, h, f, g, view, body, fresh)
-        }
-    }
+    let entrance = table::enter(t, address)?;
+    let h = entrance.header;
+    let view = admit_frame(h, body, fresh, expected, verdict)?;
+    let token = token_of(expected);
+    let g = given_of(h, address, time, token, verdict == 1);
+    hear(t, h, entrance.slot, g, view, body, fresh)
 }
 
 // ---- Clock
@@ -437,22 +319,20 @@ fn is_expired_at(t: &[u8], w: usize, k: usize, time: u32) -> bool
     deadlines::is_expired(&t[a..e], w, time)
 }
 
-fn due_below(t: &[u8], w: usize, n: usize, time: u32) -> Found
+fn due_below(t: &[u8], w: usize, n: usize, time: u32) -> Option<usize>
     requires { Reaches t.now w n }
     ensures { result ≡ first_below (λ k. expired (slot (decode_table t.now) k) time) n }
 {
-    let mut i = 0;
-    while i < n {
-        if is_expired_at(t, w, i, time) {
-            return Found::At(i);
+    for k in 0..n {
+        if is_expired_at(t, w, k, time) {
+            return Some(k);
         }
-        i += 1;
     }
-    Found::Nothing
+    None
 }
 
 // The due record with the lowest slot number.
-fn due_slot(t: &[u8], w: usize, n: usize, time: u32) -> Found
+fn due_slot(t: &[u8], w: usize, n: usize, time: u32) -> Option<usize>
     requires { Sized t.now w n }
     ensures { result ≡ due_slot (decode_table t.now) time }
 {
@@ -461,21 +341,20 @@ fn due_slot(t: &[u8], w: usize, n: usize, time: u32) -> Found
 
 // The rule for a due record, in its slot.
 fn expire_at(t: &mut [u8], k: usize, h: Header, g: Given) -> Said
-    requires { Held t.old h (At k) × Clocked g.clock h }
+    requires { Held t.old h (Some k) × Clocked g.clock h }
     ensures { DoesAt result t.new t.old k (on_clock (terms g (groups_of h)) (call g []) (slot (decode_table t.old) k)) }
 {
-    let list = h.settings.groups;
-    let n = h.settings.count as usize;
+    let settings = h.settings;
     let w = record::width_of(h);
     let a = record::record_at(w, k);
     let e = a + record::record_size(w);
-    machine::on_clock(&mut t[a..e], w, g, &list[..n])
+    machine::on_clock(&mut t[a..e], w, g, settings.listed())
 }
 
 // The due record is served.
 fn serve(t: &mut [u8], k: usize, h: Header, time: u32) -> Answer
-    requires { Held t.old h (At k) }
-    ensures { Leaves result t.new (finishes t.old (At k) (clock_step (decode_table t.old) k time) (slot (decode_table t.old) k).address) }
+    requires { Held t.old h (Some k) }
+    ensures { Leaves (telling result) t.new (finishes t.old (Some k) (clock_step (decode_table t.old) k time) (slot (decode_table t.old) k).address) }
 {
     let w = record::width_of(h);
     let address = table::address_at(t, w, k);
@@ -486,20 +365,15 @@ fn serve(t: &mut [u8], k: usize, h: Header, time: u32) -> Answer
     answers::finish_at(t, k, h, was, said, address)
 }
 
-// Clock. Cause 2.
-pub fn expire(t: &mut [u8], time: u32) -> Answer
-    ensures { Leaves result t.new (expires t.old time) }
+// Clock. Cause 2; nothing is answered where no record is due.
+pub fn expire(t: &mut [u8], time: u32) -> Result<Option<Answer>, Refusal>
+    ensures { Leaves (told_if_due result) t.new (expires t.old time) }
 {
-    let c = table::check(t);
-    let whole = c.sound;
-    if !whole {
-        return answers::refuse_with(Refusal::Unsound);
-    }
-    let h = c.header;
+    let h = table::check(t)?;
     let n = h.geometry.slots as usize;
     let w = record::width_of(h);
-    match due_slot(t, w, n, time) {
-        Found::Nothing => answers::none_due(),
-        Found::At(k) => serve(t, k, h, time),
-    }
+    let Some(k) = due_slot(t, w, n, time) else {
+        return Ok(None);
+    };
+    Ok(Some(serve(t, k, h, time)))
 }

@@ -12,7 +12,6 @@ ghost use Rattle.rules.specs.Said.{saying_frames, Does};
 ghost use Rattle.message.specs.View.{message_of};
 ghost use Rattle.rules.specs.Given.{terms, call, Paced, Whole, Stocked, Ready, Able};
 
-use groups::Choice;
 use message::View;
 use record::{
     ADDRESS, GROUP, LINK_SYNC, RC, REJECTED, RUN, RUN_OWN, STATE, SYNC, T0, TOKLEN, USED,
@@ -183,11 +182,11 @@ fn switch_group(s: &mut [u8], w: usize, groups: &[u16], fresh: &[u8], clock: Clo
     let i = groups::index_of(groups, ours);
     let rejected = groups::marked_with(before, i);
     match groups::first_left(groups, rejected) {
-        Choice::Group(k, group) => {
+        Some((k, group)) => {
             let own = groups::fresh_at(fresh, w, k);
             switch_to(s, w, rejected, group, own, clock)
         }
-        Choice::None => acts::abandon(s, w),
+        None => acts::abandon(s, w),
     }
 }
 

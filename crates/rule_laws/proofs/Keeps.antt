@@ -17,7 +17,7 @@ use Rattle.octets.proofs.Laws.{bytes-part}
 use Rattle.octets.proofs.Scan.{clash, and_left, and_right}
 use Rattle.octets.proofs.Tests.{zero-zeros}
 use Rattle.groups.specs.Groups.{width, known, listed, fresh_of, fresh_at, fresh_for, index_of, place, place_from, place_or0, mark, marked}
-use Rattle.groups.proofs.Laws.{stored_bytes, none-marked, pow_pos, room_in, chosen, place_at, listed-place}
+use Rattle.groups.proofs.Laws.{place-from, stored_bytes, none-marked, pow_pos, room_in, chosen, place_at, listed-place}
 use Rattle.groups.proofs.Fresh.{fresh-part, fresh-width}
 use Rattle.record.specs.declared.Run.{Run}
 use Rattle.record.specs.declared.Link.{Link}
@@ -244,15 +244,15 @@ placed_at (x ∷ gs) i (suc k) g o h e =
     rw (ne_eqb x g d, z) (placed_at gs (suc i) k g (and_right (not (listed gs x)) _ o) (omega arith) e)
 
 pub index-nth : (gs : List ℕ) (k g : ℕ) → each_once gs ≡ true → k < length gs → get_or gs k 0 ≡ g → index_of gs g ≡ k
-unfolding index_of place
-index-nth gs k g o h e = let z : 0 + k ≡ k = omega arith in ap place_or0 (placed_at gs 0 k g o h e) ∙ z
+unfolding index_of
+index-nth gs k g o h e = let z : 0 + k ≡ k = omega arith in ap place_or0 (place-from gs g ∙ placed_at gs 0 k g o h e) ∙ z
 
 -- the place of a listed group
 pub index_listed : (gs : List ℕ) (g : ℕ) → listed gs g ≡ true → (index_of gs g < length gs) × (get_or gs (index_of gs g) 0 ≡ g)
 unfolding index_of
 index_listed gs g l = go (place gs g) refl (sym (listed-place gs g) ∙ l)
   where
-    go : (f : Option ℕ) → place gs g ≡ f → (is_some f) ≡ true → (place_or0 f < length gs) × (get_or gs (place_or0 f) 0 ≡ g)
+    go : (f : Option ℕ) → place gs g ≡ f → is_some f ≡ true → (place_or0 f < length gs) × (get_or gs (place_or0 f) 0 ≡ g)
     go (Some k) e n = place_at gs g k e
     go None e n = absurd (clash n refl)
 

@@ -3,13 +3,5 @@ use borrow.Author.Rules.{rules}
 use Rattle.acts.proofs.accept.Goals as goal
 
 pub returns : goal.returns
-returns c = let d = c in
-    let e = d in
-    let f = e in
-    let g = f in
-    let h = g in
-    let i = h in
-    let j = i in
-    let k = j in
-    accept-law _ _ j.link_at-at.ensures _ _ k.requires.0 f.copy_within.ensures _ _ _ _ _ _ _ _ k.requires.1 i.record_size-end.ensures (search rules) (search rules)
-    h.sync_of-sync.ensures g.group_of-group.ensures e.finish_link.ensures d.clear.ensures c.say_event.ensures
+returns c = accept-law _ _ c.link_at-at.ensures _ _ c.requires.0 c.copy_within.ensures _ _ _ _ _ _ _ _ c.requires.1 c.record_size-end.ensures (search rules) (search rules)
+    c.sync_of-sync.ensures c.group_of-group.ensures c.finish_link.ensures c.clear.ensures c.say_event.ensures

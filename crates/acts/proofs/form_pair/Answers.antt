@@ -5,15 +5,8 @@ use borrow.Author.Rules.{rules}
 use Rattle.acts.proofs.form_pair.Goals as goal
 
 pub form_run-requires : goal.form_run-requires
-form_run-requires c = let k = c in (k.requires.0, (search rules, k.requires.1.1))
+form_run-requires c = (c.requires.0, (search rules, c.requires.1.1))
 
 pub returns : goal.returns
-returns c = let address-long : length c.args.address ≡ 6 = search rules in let d = c in
-    let e = d in
-    let f = e in
-    let g = f in
-    let h = g in
-    let i = h in
-    let k = i in
-    form-pair-law _ _ _ i.link_at-at.ensures h.record_size-end.ensures _ k.requires.1.0 _ _ _ _ k.args.address _ _ _ _ _ _
-    (search rules) (search rules) address-long g.form_run.ensures f.supersede_link.ensures e.put8.ensures d.put6.ensures refl
+returns c = let address-long : length c.args.address ≡ 6 = search rules in form-pair-law _ _ _ c.link_at-at.ensures c.record_size-end.ensures _ c.requires.1.0 _ _ _ _ c.args.address _ _ _ _ _ _
+    (search rules) (search rules) address-long c.form_run.ensures c.supersede_link.ensures c.put8.ensures c.put6.ensures refl

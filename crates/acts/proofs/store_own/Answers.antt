@@ -2,4 +2,4 @@ use Rattle.acts.proofs.Laws.{store-own-law}
 use Rattle.acts.proofs.store_own.Goals as goal
 
 pub returns : goal.returns
-returns c = let d = c in let k = d in store-own-law _ _ _ _ k.requires.0 k.requires.1.1 d.copy_in.ensures
+returns c = store-own-law _ _ _ _ c.requires.0 c.requires.1.1 c.copy_in.ensures

@@ -12,4 +12,4 @@ pub slice_bounds-is_same-end : goal.slice_bounds-is_same-end
 slice_bounds-is_same-end c = prefix-count _ _ (search rules)
 
 pub returns : goal.returns
-returns c = let k = c in wrong-law k.args.crowded _ k.args.v.toklen _ _ k.args.expected (ap not c.if-not-crowded.false) c.token-token.ensures c.is_same-same.ensures
+returns c = wrong-law c.args.crowded _ c.args.v.toklen _ _ c.args.expected (ap not c.if-not-crowded.false) c.token-token.ensures c.is_same-same.ensures

@@ -5,8 +5,7 @@ use Rattle.rules.specs.Book.{expired}
 use Rattle.engine.proofs.is_expired_at.Goals as goal
 
 pub returns : goal.returns
-returns c = let s = c in
-    c.is_expired.ensures
-    ∙ ap (λ (p : Peer). expired p s.args.time)
-    (window-law s.args.t.now s.args.w s.args.k _ s.requires c.record_at-a.ensures _
+returns c = c.is_expired.ensures
+    ∙ ap (λ (p : Peer). expired p c.args.time)
+    (window-law c.args.t.now c.args.w c.args.k _ c.requires c.record_at-a.ensures _
     c.record_size.ensures)

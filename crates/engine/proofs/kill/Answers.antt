@@ -1,25 +1,21 @@
-use Rattle.std.specs.Prelude.{None, Ok, Err}
-use mathlib.Core.Path.{refl}
-use Rattle.causes.specs.declared.Refusal.TheVariants as why
-use Rattle.calls.specs.Calls.{kill_turn}
-use Rattle.engine.proofs.Headers.{enters-met}
-use Rattle.engine.proofs.Starts.{kill-refused, kill-freed}
+use Rattle.std.proofs.Common.{ap, sym, ◌∙◌, refl, subst, Option, Some, ℕ}
+use Rattle.causes.proofs.Laws.{handed-on}
+use Rattle.table.proofs.Laws.{enters, enters-refused}
+use Rattle.answers.specs.Answers.{told}
+use Rattle.engine.specs.InSlot.{Held}
+use Rattle.engine.proofs.Headers.{entered-held}
+use Rattle.engine.proofs.Starts.{kill-unentered, kill-absent, kill-freed}
 use Rattle.engine.proofs.kill.Goals as goal
 
 pub free-requires : goal.free-requires
-free-requires c = (enters-met _ _ c.enter-e.result c.enter-e.ensures).here _ c.in-At.is
+free-requires c =
+    subst (λ (f : Option ℕ). Held c.args.t.now c.in_ok-entrance.entrance.header f) c.in-Some.is (entered-held _ _ c.in_ok-entrance.entrance (enters _ _ _ (sym c.enter.ensures ∙ c.in_ok-entrance.was)))
 
-pub returns-in-Unsound : goal.returns-in-Unsound
-unfolding kill_turn
-returns-in-Unsound c = kill-refused _ _ _ (Err why.Unsound) why.Unsound _ c.enter-e.ensures.entry c.in-Unsound.is refl c.refuse_with.ensures
+pub returns : goal.returns
+returns c = kill-freed _ _ _ _ _ _ (enters _ _ _ (sym c.enter.ensures ∙ c.in_ok-entrance.was)).entry c.in-Some.is c.free.ensures
 
-pub returns-in-Unusable : goal.returns-in-Unusable
-unfolding kill_turn
-returns-in-Unusable c = kill-refused _ _ _ (Err why.Address) why.Address _ c.enter-e.ensures.entry c.in-Unusable.is refl c.refuse_with-in-Unusable.ensures
+pub returns-in_default : goal.returns-in_default
+returns-in_default c = kill-absent _ _ _ _ (enters _ _ _ (sym c.enter.ensures ∙ c.in_ok-entrance.was)).entry c.in_default.is refl
 
-pub returns-in-Absent : goal.returns-in-Absent
-unfolding kill_turn
-returns-in-Absent c = kill-refused _ _ _ (Ok None) why.NoRecord _ c.enter-e.ensures.entry c.in-Absent.is refl c.refuse_with-in-Absent.ensures
-
-pub returns-in-At : goal.returns-in-At
-returns-in-At c = kill-freed _ _ _ _ _ _ c.enter-e.ensures.entry c.in-At.is c.free.ensures
+pub returns-in_err-entrance : goal.returns-in_err-entrance
+returns-in_err-entrance c = kill-unentered _ _ _ _ (enters-refused _ _ _ (sym c.enter.ensures ∙ c.in_err-entrance.was)) (ap told (handed-on _ _ c.from_residual.ensures.1))

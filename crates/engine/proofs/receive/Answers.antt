@@ -1,24 +1,33 @@
-use Rattle.engine.proofs.Headers.{enters-met, met-listing}
-use Rattle.engine.proofs.Frames.{frame-fitting, given-brought, receive-refused, receive-goes, receive-went}
+use Rattle.std.proofs.Common.{ap, sym, ◌∙◌}
+use Rattle.causes.proofs.Laws.{handed-on}
+use Rattle.table.proofs.Laws.{enters, enters-refused}
+use Rattle.answers.specs.Answers.{told}
+use Rattle.engine.proofs.Headers.{entered-held, held-header, held-places}
+use Rattle.engine.proofs.Frames.{receive-unentered, receive-refused, receive-goes, receive-went, frame-fitting, given-brought}
 use Rattle.engine.proofs.receive.Goals as goal
 
-pub frame_turn-a-requires : goal.frame_turn-a-requires
-frame_turn-a-requires c = met-listing _ _ _ (enters-met _ _ c.enter-e.result c.enter-e.ensures)
+pub admit_frame-requires : goal.admit_frame-requires
+admit_frame-requires c =
+    let H = entered-held _ _ c.in_ok-entrance.entrance (enters _ _ _ (sym c.enter.ensures ∙ c.in_ok-entrance.was)) in (held-header _ _ _ H, held-places _ c.in_ok-entrance.entrance.header _ H)
 
 pub token_of-token-requires : goal.token_of-token-requires
-token_of-token-requires c = (receive-goes _ _ _ _ _ _ c.enter-e.result c.enter-e.ensures c.frame_turn-a.result c.frame_turn-a.ensures _ c.in-Go.is).token
+token_of-token-requires c = (receive-goes _ _ _ _ _ _ c.in_ok-entrance.entrance (enters _ _ _ (sym c.enter.ensures ∙ c.in_ok-entrance.was)) _ c.admit_frame.ensures _ c.in_ok-view.was).token
 
 pub hear-requires : goal.hear-requires
-hear-requires c = let K = c.frame_turn-a.ensures in
-    let G =
-    receive-goes _ _ _ _ _ _ c.enter-e.result
-    c.enter-e.ensures
-    c.frame_turn-a.result K _ c.in-Go.is in
-    let F = frame-fitting _ _ _ G.stock.header (K.view _ c.in-Go.is) K.short in
+hear-requires c =
+    let K = c.admit_frame.ensures in
+    let G = receive-goes _ _ _ _ _ _ c.in_ok-entrance.entrance (enters _ _ _ (sym c.enter.ensures ∙ c.in_ok-entrance.was)) _ K _ c.in_ok-view.was in
+    let F = frame-fitting _ _ _ G.stock.header (K.view _ c.in_ok-view.was) (K.short _ c.in_ok-view.was) in
     (G.held, (G.stock, (given-brought _ _ _ _ _ _ c.given_of-g.ensures, F)))
 
-pub returns-in-Refused : goal.returns-in-Refused
-returns-in-Refused c = receive-refused _ _ c.args.time _ _ _ _ c.enter-e.result c.enter-e.ensures c.frame_turn-a.result c.frame_turn-a.ensures _ _ c.in-Refused.is c.refuse_with.ensures
+pub returns : goal.returns
+returns c =
+    receive-went _ _ c.args.time _ _ _ _ _ c.in_ok-entrance.entrance (enters _ _ _ (sym c.enter.ensures ∙ c.in_ok-entrance.was)) _ c.admit_frame.ensures _ c.in_ok-view.was _ _ _ c.token_of-token.ensures c.given_of-g.ensures
+    c.hear.ensures
 
-pub returns-in-Go : goal.returns-in-Go
-returns-in-Go c = receive-went _ _ c.args.time _ _ _ _ c.enter-e.result c.enter-e.ensures c.frame_turn-a.result c.frame_turn-a.ensures _ _ _ _ _ c.in-Go.is c.token_of-token.ensures c.given_of-g.ensures c.hear.ensures
+pub returns-in_err-entrance : goal.returns-in_err-entrance
+returns-in_err-entrance c = receive-unentered _ _ c.args.time _ _ _ _ _ _ (enters-refused _ _ _ (sym c.enter.ensures ∙ c.in_err-entrance.was)) (ap told (handed-on _ _ c.from_residual.ensures.1))
+
+pub returns-in_err-view : goal.returns-in_err-view
+returns-in_err-view c =
+    receive-refused _ _ c.args.time _ _ _ _ _ c.in_ok-entrance.entrance (enters _ _ _ (sym c.enter.ensures ∙ c.in_ok-entrance.was)) _ c.admit_frame.ensures _ c.in_err-view.was (ap told (handed-on _ _ c.from_residual-in_err-view.ensures.1))

@@ -1,4 +1,6 @@
 use mathlib.Core.Path.{sym, ◌∙◌}
+use Rattle.answers.specs.Answers.{telling}
+use Rattle.std.proofs.Common.{ap, refl}
 use Rattle.engine.proofs.Headers.{held-sized, held_at, held-reached}
 use Rattle.engine.proofs.Windows.{slot-changed}
 use Rattle.engine.proofs.Starts.{given-clocked, started, start-full}
@@ -6,34 +8,29 @@ use borrow.Author.Rules.{rules}
 use Rattle.engine.proofs.start.Goals as goal
 
 pub seat_of-requires : goal.seat_of-requires
-seat_of-requires c = let k = c in held-sized _ k.args.h _ k.requires.0 _ c.width_of-w.ensures
+seat_of-requires c = held-sized _ c.args.h _ c.requires.0 _ c.width_of-w.ensures
 
 pub standing_of-was-requires : goal.standing_of-was-requires
-standing_of-was-requires c = let k = c in
-    held-reached _ k.args.h _ (held_at _ k.args.h _ _ k.requires.0
-    (sym c.seat_of.ensures ∙ c.in-At.is)) _
+standing_of-was-requires c = held-reached _ c.args.h _ (held_at _ c.args.h _ _ c.requires.0
+    (sym c.seat_of.ensures ∙ c.in-Some.is)) _
     c.width_of-w.ensures
 
 pub start_at-said-requires : goal.start_at-said-requires
-start_at-said-requires c = let k = c in
-    (held_at _ k.args.h _ _ k.requires.0 (sym c.seat_of.ensures ∙ c.in-At.is), (k.requires.1, given-clocked k.args.h _ _ _ _ _ c.given_of-g.ensures))
+start_at-said-requires c = (held_at _ c.args.h _ _ c.requires.0 (sym c.seat_of.ensures ∙ c.in-Some.is), (c.requires.1, given-clocked c.args.h _ _ _ _ _ c.given_of-g.ensures))
 
 pub finish_at-requires : goal.finish_at-requires
-finish_at-requires c = let k = c in
-    slot-changed _ k.args.h _ (held_at _ k.args.h _ _ k.requires.0
-    (sym c.seat_of.ensures ∙ c.in-At.is)) _ _ _ _
+finish_at-requires c = slot-changed _ c.args.h _ (held_at _ c.args.h _ _ c.requires.0
+    (sym c.seat_of.ensures ∙ c.in-Some.is)) _ _ _ _
     (search rules) c.start_at-said.ensures c.standing_of-was.ensures
 
-pub returns-in-At : goal.returns-in-At
-returns-in-At c = let k = c in
-    started k.args.t.now k.args.h k.args.f k.requires.0 k.args.address k.args.time k.args.fresh.now _ _ _ _ _ _ _
+pub returns : goal.returns
+returns c = started c.args.t.now c.args.h c.args.f c.requires.0 c.args.address c.args.time c.args.fresh.now _ _ _ _ _ _ _
     (λ i. search rules)
     c.seat_of.ensures
-    c.in-At.is
+    c.in-Some.is
     c.given_of-g.ensures
-    c.start_at-said.ensures c.finish_at.ensures
+    c.start_at-said.ensures (ap telling c.finish_at.ensures.0, c.finish_at.ensures.1)
 
-pub returns-in-Nothing : goal.returns-in-Nothing
-returns-in-Nothing c = let k = c in
-    start-full k.args.t.now k.args.h k.args.f k.requires.0 k.args.address k.args.time k.args.fresh.now _ _
-    c.seat_of.ensures c.in-Nothing.is c.refuse_with.ensures
+pub returns-in_default : goal.returns-in_default
+returns-in_default c = start-full c.args.t.now c.args.h c.args.f c.requires.0 c.args.address c.args.time c.args.fresh.now _ _
+    c.seat_of.ensures c.in_default.is refl

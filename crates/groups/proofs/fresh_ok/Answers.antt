@@ -3,7 +3,7 @@ use borrow.Author.Rules.{rules}
 use Rattle.groups.proofs.fresh_ok.Goals as goal
 
 pub overflow_mul-w : goal.overflow_mul-w
-overflow_mul-w c = let k = c in search (rules, stock-small k.args.w _ k.requires.1.0 k.requires.1.1)
+overflow_mul-w c = search (rules, stock-small c.args.w _ c.requires.1.0 c.requires.1.1)
 
 pub returns-then-fresh-w : goal.returns-then-fresh-w
 returns-then-fresh-w c = fresh-short _ _ _ c.if-fresh-w.true

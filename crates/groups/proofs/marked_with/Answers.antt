@@ -9,7 +9,7 @@ unfolding mark
 returns-then-is_marked c = simp (sym c.is_marked.ensures ∙ c.if-is_marked.true)
 
 pub overflow_add-result : goal.overflow_add-result
-overflow_add-result c = let a = c in record { fits = mark-fits a.args.rejected a.args.i c.bit_of.result (search rules) a.requires c.bit_of.ensures (sym c.is_marked.ensures ∙ c.if-is_marked.false) }
+overflow_add-result c = record { fits = mark-fits c.args.rejected c.args.i c.bit_of.result (search rules) c.requires c.bit_of.ensures (sym c.is_marked.ensures ∙ c.if-is_marked.false) }
 
 pub returns : goal.returns
 unfolding mark

@@ -9,11 +9,7 @@ pub slice_bounds-copy_in-end : goal.slice_bounds-copy_in-end
 slice_bounds-copy_in-end c = prefix-count 96 c.args.a (search rules)
 
 pub copy_in-requires : goal.copy_in-requires
-copy_in-requires c = let k = c in
-    let l = length-take-le 96 k.args.a (search rules) in omega (arith, l, k.requires)
+copy_in-requires c = let l = length-take-le 96 c.args.a (search rules) in omega (arith, l, c.requires)
 
 pub returns : goal.returns
-returns c = let d = c in
-    let e = d in
-    let k = e in
-    front-law _ _ _ k.args.a _ 96 144 k.requires (omega arith) (search rules) e.copy_in.ensures d.copy_in-2.ensures
+returns c = front-law _ _ _ c.args.a _ 96 144 c.requires (omega arith) (search rules) c.copy_in.ensures c.copy_in-2.ensures

@@ -10,14 +10,10 @@ pub slice_bounds-copy_in-end : goal.slice_bounds-copy_in-end
 slice_bounds-copy_in-end c = prefix-count _ _ (search rules)
 
 pub copy_in-requires : goal.copy_in-requires
-copy_in-requires c = let d = c in
-    let k = d in
-    let l = length-take-le k.args.w d.stored_commit-a.result (search rules) in omega (arith, l, k.requires.0)
+copy_in-requires c = let l = length-take-le c.args.w c.stored_commit-a.result (search rules) in omega (arith, l, c.requires.0)
 
 pub returns-then-w-ne-COMMIT_20 : goal.returns-then-w-ne-COMMIT_20
-returns-then-w-ne-COMMIT_20 c = let d = c in
-    let e = d in
-    d.copy_in.ensures ∙ rw e.stored_commit-a.ensures refl
+returns-then-w-ne-COMMIT_20 c = c.copy_in.ensures ∙ rw c.stored_commit-a.ensures refl
 
 pub slice_bounds-stored_commit-end : goal.slice_bounds-stored_commit-end
 slice_bounds-stored_commit-end c = prefix-count 96 c.args.commit.now (search rules)
@@ -26,11 +22,7 @@ pub stored_commit-a-requires-then-n-eq-COMMIT_19 : goal.stored_commit-a-requires
 stored_commit-a-requires-then-n-eq-COMMIT_19 c = cut_fits 96 c.args.commit.now (omega arith)
 
 pub returns-then-n-eq-COMMIT_19 : goal.returns-then-n-eq-COMMIT_19
-returns-then-n-eq-COMMIT_19 c = let d = c in
-    let e = d in
-    let f = e in
-    let k = f in
-    way-law _ _ k.args.commit.now _ _ _ 96 144 f.if-w-ne-COMMIT_20.false f.if-n-eq-COMMIT_19.true e.stored_commit-a-then-n-eq-COMMIT_19.ensures d.put_front.ensures
+returns-then-n-eq-COMMIT_19 c = way-law _ _ c.args.commit.now _ _ _ 96 144 c.if-w-ne-COMMIT_20.false c.if-n-eq-COMMIT_19.true c.stored_commit-a-then-n-eq-COMMIT_19.ensures c.put_front.ensures
 
 pub slice_bounds-stored_commit-end-then-n-eq-COMMIT_20 : goal.slice_bounds-stored_commit-end-then-n-eq-COMMIT_20
 slice_bounds-stored_commit-end-then-n-eq-COMMIT_20 c = prefix-count 144 c.args.commit.now (search rules)
@@ -39,14 +31,7 @@ pub stored_commit-a-requires-then-n-eq-COMMIT_20 : goal.stored_commit-a-requires
 stored_commit-a-requires-then-n-eq-COMMIT_20 c = cut_fits 144 c.args.commit.now (omega arith)
 
 pub returns-then-n-eq-COMMIT_20 : goal.returns-then-n-eq-COMMIT_20
-returns-then-n-eq-COMMIT_20 c = let d = c in
-    let e = d in
-    let f = e in
-    let k = f in
-    way-law _ _ k.args.commit.now _ _ _ 144 144 f.if-w-ne-COMMIT_20.false f.if-n-eq-COMMIT_20.true e.stored_commit-a-then-n-eq-COMMIT_20.ensures d.put_front-then-n-eq-COMMIT_20.ensures
+returns-then-n-eq-COMMIT_20 c = way-law _ _ c.args.commit.now _ _ _ 144 144 c.if-w-ne-COMMIT_20.false c.if-n-eq-COMMIT_20.true c.stored_commit-a-then-n-eq-COMMIT_20.ensures c.put_front-then-n-eq-COMMIT_20.ensures
 
 pub returns : goal.returns
-returns c = let d = c in
-    let e = d in
-    let k = e in
-    d.put_front-2.ensures ∙ rw (e.stored_commit-a-2.ensures, k.if-w-ne-COMMIT_20.false) refl
+returns c = c.put_front-2.ensures ∙ rw (c.stored_commit-a-2.ensures, c.if-w-ne-COMMIT_20.false) refl

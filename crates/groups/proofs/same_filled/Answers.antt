@@ -3,5 +3,4 @@ use borrow.Author.Rules.{rules}
 use Rattle.groups.proofs.same_filled.Goals as goal
 
 pub returns : goal.returns
-returns c = let k = c in
-    filled-same _ _ _ _ _ _ _ k.requires.0 (search rules) k.requires.1.1.0 k.requires.1.1.1 c.same_part-like.ensures c.zero_part.ensures
+returns c = filled-same _ _ _ _ _ _ _ c.requires.0 (search rules) c.requires.1.1.0 c.requires.1.1.1 c.same_part-like.ensures c.zero_part.ensures

@@ -6,5 +6,4 @@ use borrow.Author.Rules.{rules}
 use Rattle.initial.proofs.store_fresh.Goals as goal
 
 pub returns : goal.returns
-returns c = let fit : length c.args.h.own ≡ 6 = search rules in let k = c in
-    fill-law k.args.t.now _ _ k.args.h k.requires (length-six k.args.h fit) c.clear.ensures c.store_header.ensures
+returns c = let fit : length c.args.h.own ≡ 6 = search rules in fill-law c.args.t.now _ _ c.args.h c.requires (length-six c.args.h fit) c.clear.ensures c.store_header.ensures

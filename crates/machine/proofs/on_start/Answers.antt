@@ -4,7 +4,7 @@ use Rattle.machine.proofs.Rules.{start-begins, start-refused}
 use Rattle.machine.proofs.on_start.Goals as goal
 
 pub returns-then-full : goal.returns-then-full
-returns-then-full c = let k = c in start-refused k.args.w (terms k.args.g k.args.groups.now) (call k.args.g (fresh_of k.args.w k.args.fresh.now)) _ _ c.if-full.true c.say_refused.ensures
+returns-then-full c = start-refused c.args.w (terms c.args.g c.args.groups.now) (call c.args.g (fresh_of c.args.w c.args.fresh.now)) _ _ c.if-full.true c.say_refused.ensures
 
 pub returns : goal.returns
-returns c = let k = c in start-begins k.args.w (terms k.args.g k.args.groups.now) (call k.args.g (fresh_of k.args.w k.args.fresh.now)) _ _ _ c.if-full.false c.begin.ensures
+returns c = start-begins c.args.w (terms c.args.g c.args.groups.now) (call c.args.g (fresh_of c.args.w c.args.fresh.now)) _ _ _ c.if-full.false c.begin.ensures

@@ -6,7 +6,7 @@ use borrow.Author.Rules.{rules}
 use Rattle.moves.proofs.lists_wide_group.Goals as goal
 
 pub slice_bounds-list-end : goal.slice_bounds-list-end
-slice_bounds-list-end c = let three : length c.args.h.settings.groups ≡ 3 = search rules in let k = c in omega (arith, three, k.requires)
+slice_bounds-list-end c = let three : length c.args.h.settings.groups ≡ 3 = search rules in omega (arith, three, c.requires)
 
 pub slice_bounds-is_listed-end : goal.slice_bounds-is_listed-end
-slice_bounds-is_listed-end c = let three : length c.args.h.settings.groups ≡ 3 = search rules in let k = c in prefix-count k.args.h.settings.count k.args.h.settings.groups (omega (arith, three, k.requires))
+slice_bounds-is_listed-end c = let three : length c.args.h.settings.groups ≡ 3 = search rules in prefix-count c.args.h.settings.count c.args.h.settings.groups (omega (arith, three, c.requires))

@@ -3,7 +3,4 @@ use borrow.Author.Rules.{rules}
 use Rattle.perform.proofs.hear_link.Goals as goal
 
 pub returns : goal.returns
-returns c = let d = c in
-    let e = d in
-    let k = e in
-    hear-link-law _ _ _ _ _ _ k.requires (search rules) (search rules) e.put8.ensures d.put16.ensures
+returns c = hear-link-law _ _ _ _ _ _ c.requires (search rules) (search rules) c.put8.ensures c.put16.ensures

@@ -2,8 +2,4 @@ use Rattle.perform.proofs.Repeats.{repeat-commit-law}
 use Rattle.perform.proofs.repeat_commit.Goals as goal
 
 pub returns : goal.returns
-returns c = let d = c in
-    let e = d in
-    let f = e in
-    let g = f in
-    repeat-commit-law _ _ _ _ _ _ _ _ g.group_of-group.ensures f.sc_of-sc.ensures e.commit_frame-commit.ensures d.retransmit.ensures
+returns c = repeat-commit-law _ _ _ _ _ _ _ _ c.group_of-group.ensures c.sc_of-sc.ensures c.commit_frame-commit.ensures c.retransmit.ensures

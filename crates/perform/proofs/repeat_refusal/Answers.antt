@@ -2,7 +2,4 @@ use Rattle.perform.proofs.Repeats.{repeat-refusal-law}
 use Rattle.perform.proofs.repeat_refusal.Goals as goal
 
 pub returns : goal.returns
-returns c = let d = c in
-    let e = d in
-    let f = e in
-    repeat-refusal-law _ _ _ _ _ _ _ _ f.sc_of-sc.ensures e.group_refusal_frame-refusal.ensures d.retransmit.ensures
+returns c = repeat-refusal-law _ _ _ _ _ _ _ _ c.sc_of-sc.ensures c.group_refusal_frame-refusal.ensures c.retransmit.ensures

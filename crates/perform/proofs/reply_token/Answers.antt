@@ -4,10 +4,5 @@ use borrow.Author.Rules.{rules}
 use Rattle.perform.proofs.reply_token.Goals as goal
 
 pub returns : goal.returns
-returns c = let d = c in
-    let e = d in
-    let f = e in
-    let g = f in
-    let k = g in
-    reply-token-law _ _ f.link_at-at.ensures _ k.args.s.now e.store_token.new.r _ (message_of k.args.body.now k.args.v) _ _
-    g.token-token.ensures e.store_token.ensures k.requires.1.0 (search rules) d.repeat_commit.ensures
+returns c = reply-token-law _ _ c.link_at-at.ensures _ c.args.s.now c.store_token.new.r _ (message_of c.args.body.now c.args.v) _ _
+    c.token-token.ensures c.store_token.ensures c.requires.1.0 (search rules) c.repeat_commit.ensures

@@ -2,10 +2,4 @@ use Rattle.perform.proofs.Repeats.{resend-law}
 use Rattle.perform.proofs.resend_both.Goals as goal
 
 pub returns : goal.returns
-returns c = let d = c in
-    let e = d in
-    let f = e in
-    let g = f in
-    let h = g in
-    let i = h in
-    resend-law _ _ _ _ _ _ _ _ _ _ i.group_of-group.ensures h.sync_of-sync.ensures g.sc_of-sc.ensures f.commit_frame-commit.ensures e.confirm_frame-confirm.ensures d.send_counted.ensures
+returns c = resend-law _ _ _ _ _ _ _ _ _ _ c.group_of-group.ensures c.sync_of-sync.ensures c.sc_of-sc.ensures c.commit_frame-commit.ensures c.confirm_frame-confirm.ensures c.send_counted.ensures

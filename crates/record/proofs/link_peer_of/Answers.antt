@@ -4,4 +4,4 @@ use Rattle.record.proofs.Windows.{link-peer-part}
 use Rattle.record.proofs.link_peer_of.Goals as goal
 
 pub returns : goal.returns
-returns c = let k = c in link-peer-part k.args.w _ _ _ k.requires.0 (omega (arith, c.link_peer_at.ensures, c.link_at.ensures)) refl
+returns c = link-peer-part c.args.w _ _ _ c.requires.0 (omega (arith, c.link_peer_at.ensures, c.link_at.ensures)) refl

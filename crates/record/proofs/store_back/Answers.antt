@@ -9,8 +9,7 @@ use Rattle.record.proofs.store_back.Goals as goal
 
 pub returns : goal.returns
 unfolding lay back_fields
-returns c = let fit : length c.args.h.own ≡ 6 = search rules in let k = c in
-    let chain : c.put16-4.new.s ≡ lay 0 (6 ∷ 1 ∷ 1 ∷ 2 ∷ 2 ∷ 2 ∷ 2 ∷ []) (back_fields k.args.h) k.args.s.now =
+returns c = let fit : length c.args.h.own ≡ 6 = search rules in let chain : c.put16-4.new.s ≡ lay 0 (6 ∷ 1 ∷ 1 ∷ 2 ∷ 2 ∷ 2 ∷ 2 ∷ []) (back_fields c.args.h) c.args.s.now =
     cc (
       c.put16-4.ensures,
       c.put16-3.ensures,
@@ -20,4 +19,4 @@ returns c = let fit : length c.args.h.own ≡ 6 = search rules in let k = c in
       c.put8.ensures,
       c.put6.ensures,
     ) in
-    chain ∙ store-back-law k.args.s.now k.args.h k.requires fit
+    chain ∙ store-back-law c.args.s.now c.args.h c.requires fit

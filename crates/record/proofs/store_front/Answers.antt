@@ -7,8 +7,7 @@ use Rattle.record.proofs.store_front.Goals as goal
 
 pub returns : goal.returns
 unfolding lay front_fields
-returns c = let k = c in
-    let chain : c.put16-8.new.s ≡ lay 0 (2 ∷ 2 ∷ 2 ∷ 2 ∷ 2 ∷ 2 ∷ 2 ∷ 2 ∷ []) (front_fields k.args.h) k.args.s.now =
+returns c = let chain : c.put16-8.new.s ≡ lay 0 (2 ∷ 2 ∷ 2 ∷ 2 ∷ 2 ∷ 2 ∷ 2 ∷ 2 ∷ []) (front_fields c.args.h) c.args.s.now =
     cc (
       c.put16-8.ensures,
       c.put16-7.ensures,
@@ -19,4 +18,4 @@ returns c = let k = c in
       c.put16-2.ensures,
       c.put16.ensures,
     ) in
-    chain ∙ store-front-law k.args.s.now k.args.h k.requires
+    chain ∙ store-front-law c.args.s.now c.args.h c.requires

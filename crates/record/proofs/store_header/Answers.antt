@@ -5,5 +5,4 @@ use borrow.Author.Rules.{rules}
 use Rattle.record.proofs.store_header.Goals as goal
 
 pub returns : goal.returns
-returns c = let fit : length c.args.h.own ≡ 6 = search rules in let k = c in
-    store-header-law k.args.s.now _ _ k.args.h k.requires fit c.store_front.ensures c.store_back.ensures
+returns c = let fit : length c.args.h.own ≡ 6 = search rules in store-header-law c.args.s.now _ _ c.args.h c.requires fit c.store_front.ensures c.store_back.ensures

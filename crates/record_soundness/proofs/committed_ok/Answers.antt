@@ -6,9 +6,6 @@ use Rattle.record_soundness.proofs.committed_ok.Goals as goal
 
 pub returns : goal.returns
 unfolding commit_ok decode_run run_of run_widths cut
-returns c = let d = c in
-    let e = d in
-    let k = e in
-    let z = peer-zeros _ _ _ _ _ e.run_peer_at-at.ensures e.run_token_at-end.ensures d.zero_all-peer.ensures in
-    let f = committed-by k.args.groups.now k.args.high (decode_run k.args.w k.args.s.now) in
+returns c = let z = peer-zeros _ _ _ _ _ c.run_peer_at-at.ensures c.run_token_at-end.ensures c.zero_all-peer.ensures in
+    let f = committed-by c.args.groups.now c.args.high (decode_run c.args.w c.args.s.now) in
     cc

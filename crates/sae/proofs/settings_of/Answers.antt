@@ -3,9 +3,5 @@ use Rattle.sae.proofs.Laws.{settings-are}
 use Rattle.sae.proofs.settings_of.Goals as goal
 
 pub returns : goal.returns
-returns c = let d = c in
-    let e = d in
-    let f = e in
-    let g = f in
-    settings-are _ _ _ _ _ _ _ _ g.get8-count.ensures g.get16-first.ensures g.get16-second.ensures f.get16-third.ensures e.get16-threshold.ensures
-    d.get16-period.ensures c.get8-limit.ensures
+returns c = settings-are _ _ _ _ _ _ _ _ c.get8-count.ensures c.get16-first.ensures c.get16-second.ensures c.get16-third.ensures c.get16-threshold.ensures
+    c.get16-period.ensures c.get8-limit.ensures

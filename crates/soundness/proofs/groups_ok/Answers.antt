@@ -7,21 +7,13 @@ pub returns-then-form-n : goal.returns-then-form-n
 returns-then-form-n c = groups-more _ _ _ c.if-form-n.true
 
 pub returns-then-n-eq1 : goal.returns-then-n-eq1
-returns-then-n-eq1 c = let s = c in groups-is-one _ s.args.n s.args.gs (search rules) c.if-form-n.false _ refl _ c.is_listable-first.ensures c.if-n-eq1.true
+returns-then-n-eq1 c = groups-is-one _ c.args.n c.args.gs (search rules) c.if-form-n.false _ refl _ c.is_listable-first.ensures c.if-n-eq1.true
 
 pub returns-then-n-eq2 : goal.returns-then-n-eq2
-returns-then-n-eq2 c = let d = c in
-    let s = d in
-    groups-is-two _ s.args.n s.args.gs (search rules) d.if-form-n.false _ refl _ d.is_listable-first.ensures _ c.is_listable-second.ensures c.if-n-eq2.true
+returns-then-n-eq2 c = groups-is-two _ c.args.n c.args.gs (search rules) c.if-form-n.false _ refl _ c.is_listable-first.ensures _ c.is_listable-second.ensures c.if-n-eq2.true
 
 pub returns-then-n-eq3 : goal.returns-then-n-eq3
-returns-then-n-eq3 c = let e = c in
-    let d = e in
-    let s = d in
-    groups-is-three _ s.args.n s.args.gs (search rules) d.if-form-n.false _ refl _ d.is_listable-first.ensures _ e.is_listable-second.ensures _ c.if-n-eq3.true c.is_listable-third.ensures
+returns-then-n-eq3 c = groups-is-three _ c.args.n c.args.gs (search rules) c.if-form-n.false _ refl _ c.is_listable-first.ensures _ c.is_listable-second.ensures _ c.if-n-eq3.true c.is_listable-third.ensures
 
 pub returns : goal.returns
-returns c = let e = c in
-    let d = e in
-    let s = d in
-    groups-else _ _ s.args.gs s.requires d.if-n-eq1.false e.if-n-eq2.false c.if-n-eq3.false
+returns c = groups-else _ _ c.args.gs c.requires c.if-n-eq1.false c.if-n-eq2.false c.if-n-eq3.false

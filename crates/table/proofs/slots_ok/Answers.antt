@@ -8,7 +8,7 @@ pub loop-i-init : goal.loop-i-init
 loop-i-init c = (search rules, all_none _)
 
 pub slot_ok-requires : goal.slot_ok-requires
-slot_ok-requires c = let a = c in (reach a.args.t.now a.args.w a.args.n c.loop-i.i a.requires.0 c.loop-i-test.true, a.requires.1)
+slot_ok-requires c = (reach c.args.t.now c.args.w c.args.n c.loop-i.i c.requires.0 c.loop-i-test.true, c.requires.1)
 
 pub loop-i-preserved : goal.loop-i-preserved
 loop-i-preserved c = (search rules, all_more _ _ c.loop-i.invariant.1 (sym c.slot_ok.ensures ∙ c.if-slot_ok.true))

@@ -2,4 +2,4 @@ use Rattle.table.proofs.Octets.{used-at-law}
 use Rattle.table.proofs.used_at.Goals as goal
 
 pub returns : goal.returns
-returns c = let k = c in used-at-law k.args.t.now k.args.w k.args.k _ k.requires c.record_at-a.ensures _ c.get8.ensures
+returns c = used-at-law c.args.t.now c.args.w c.args.k _ c.requires c.record_at-a.ensures _ c.get8.ensures
