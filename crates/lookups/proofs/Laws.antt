@@ -1,14 +1,13 @@
 -- Laws of the lookups: what each function's cases show of their definitions.
-use Rattle.std.proofs.Common.{◌≡◌, ℕ, ◌+◌, ◌-◌, ◌%◌, ◌^◌, ◌<◌, ◌≤◌, Bool, true, false, not, List, sym, refl, ap, ◌∙◌, add-one, arith, Ok, Err, Option, Some, None, Result}
-use borrow.Author.Tests.{not-true}
+use Rattle.std.proofs.Common.{◌≡◌, ℕ, ◌+◌, ◌-◌, ◌%◌, ◌^◌, ◌<◌, ◌≤◌, Bool, true, false, List, refl, ap, ◌∙◌, add-one, arith, Ok, Err, Option, Some, None, Result}
 use Rattle.record.specs.declared.Header.{Header}
 use Rattle.record.specs.declared.Peer.{Peer}
 use Rattle.rules.specs.Book.{due, ◌isnt◌}
 use Rattle.groups.specs.Groups.{width}
 use Rattle.record.specs.Layout.{width_in, record_at}
-use Rattle.table.specs.Table.{width_of, decode_table, slots, slot, sound, entry, Looked}
-use Rattle.table.proofs.Laws.{entry-found, looked-sound, slots-law, looked-header, entry_ready, width-told, record-bound}
-use Rattle.causes.specs.declared.Refusal.TheVariants as why
+use Rattle.table.specs.Table.{width_of, decode_table, slots, slot, entry, checked, entering, Looked, Enters}
+use Rattle.table.specs.declared.Entrance.{Entrance}
+use Rattle.table.proofs.Laws.{unsound, enters-refused, entry_ready, width-told, record-bound}
 use Rattle.lookups.specs.Lookups.{no_deadline, time_left, left_if, lesser, peer_left, least_below, next_deadline, asks_deadline, offset_by, asks_offset}
 use Rattle.causes.specs.declared.Refusal.{Refusal}
 
@@ -40,43 +39,42 @@ module _ (f : ℕ → ℕ) where
   pub least-through : (n i r : ℕ) → i ≤ n → n ≤ i → r ≡ least_below f i → r ≡ least_below f n
   least-through n i r h k p = let e : i ≡ n = omega arith in rw e at p
 
-pub asks-unsound : (t : List ℕ) (time : ℕ) (b : Bool) → b ≡ sound t → not b ≡ true → Err why.Unsound ≡ asks_deadline t time
+pub asks-refused : (t : List ℕ) (time : ℕ) (c : Refusal) (r : Result ℕ Refusal) → r ≡ Err c → checked t ≡ Err c → r ≡ asks_deadline t time
 unfolding asks_deadline
-asks-unsound t time b e q = let z : sound t ≡ false = sym e ∙ not-true b q in rw z
+asks-refused t time c r k e = let u = unsound t c e in k ∙ rw u.0 (ap Err u.1)
 
-pub asks-least : (t : List ℕ) (time : ℕ) (b : Bool) (h : Header) → Looked t b h → not b ≡ false → (left : ℕ)
+pub asks-least : (t : List ℕ) (time : ℕ) (h : Header) → Looked t h → (left : ℕ)
     → left ≡ least_below (λ k. peer_left (slot (decode_table t) k) time) h.geometry.slots → Ok left ≡ asks_deadline t time
 unfolding asks_deadline next_deadline
-asks-least t time b h L q left e =
-    let z : sound t ≡ true = looked-sound t b h L q in
-    let n : h.geometry.slots ≡ slots (decode_table t) = (slots-law t h z (looked-header t b h L q)).0 in
-    rw z (ap Ok (e ∙ ap (least_below (λ k. peer_left (slot (decode_table t) k) time)) n))
+asks-least t time h L left e =
+    let n : h.geometry.slots ≡ slots (decode_table t) = ap (λ (g : Header). g.geometry.slots) L.header in
+    rw L.whole (ap Ok (e ∙ ap (least_below (λ k. peer_left (slot (decode_table t) k) time)) n))
 
 -- ---- where a record lies
 
-module _ (t a : List ℕ) (x : Result (Option ℕ) Refusal) (e : x ≡ entry t a) where
-  pub offset-of : (y : Result (Option ℕ) Refusal) → x ≡ y → offset_by y (width_of t) ≡ asks_offset t a
-  unfolding asks_offset
-  offset-of y q = ap (λ (z : Result (Option ℕ) Refusal). offset_by z (width_of t)) (sym q ∙ e)
+pub none-found : (f : Option ℕ) → ((k : ℕ) → f ≡ Some k → ⊥) → f ≡ None
+none-found None d = refl
+none-found (Some k) d = absurd (d k refl)
 
-  pub offset-refused : x ≡ Err why.Unsound → Err why.Unsound ≡ asks_offset t a
-  unfolding offset_by
-  offset-refused q = offset-of (Err why.Unsound) q
+module _ (t a : List ℕ) where
+  pub offset-refused : (c : Refusal) (r : Result ℕ Refusal) → r ≡ Err c → entering t a ≡ Err c → r ≡ asks_offset t a
+  unfolding asks_offset offset_by
+  offset-refused c r k e = k ∙ rw (enters-refused t a c e)
 
-  pub offset-unusable : x ≡ Err why.Address → Err why.Address ≡ asks_offset t a
-  unfolding offset_by
-  offset-unusable q = offset-of (Err why.Address) q
+  module _ (r : Entrance) (E : Enters r t a) where
+    pub offset-absent : r.slot ≡ None → Ok 0 ≡ asks_offset t a
+    unfolding asks_offset offset_by
+    offset-absent q = rw (E.entry ∙ ap Ok q)
 
-  pub offset-absent : x ≡ Ok None → Ok 0 ≡ asks_offset t a
-  unfolding offset_by
-  offset-absent q = offset-of (Ok None) q
+    module _ (k : ℕ) (q : r.slot ≡ Some k) where
+      here : entry t a ≡ Ok (Some k)
+      here = E.entry ∙ ap Ok q
 
-  module _ (k : ℕ) (q : x ≡ Ok (Some k)) (h : Header) (w : ℕ) (eh : sound t ≡ true → h ≡ (decode_table t).header) (ew : w ≡ width_in h) (m : w ≤ width) where
-    pub offset_at : (n : ℕ) → n ≡ record_at w k → Ok n ≡ asks_offset t a
-    unfolding offset_by
-    offset_at n en =
-        let z : w ≡ width_of t = width-told t h w (eh (entry-found t a (Some k) (sym e ∙ q)).0) ew in
-        ap Ok (en ∙ ap (λ (W : ℕ). record_at W k) z) ∙ offset-of (Ok (Some k)) q
+      pub offset-small : (w : ℕ) → w ≤ width → record_at w k < 2 ^ 32
+      offset-small w m = let r = entry_ready t a k here in record-bound w k m (omega (arith, r.below, r.small))
 
-    pub offset-small : record_at w k < 2 ^ 32
-    offset-small = let r = entry_ready t a k (sym e ∙ q) in record-bound w k m (omega (arith, r.below, r.small))
+      pub offset_at : (w : ℕ) → w ≡ width_in r.header → (n : ℕ) → n ≡ record_at w k → Ok n ≡ asks_offset t a
+      unfolding asks_offset offset_by
+      offset_at w ew n en =
+          let z : w ≡ width_of t = width-told t r.header w E.looked.header ew in
+          rw here (ap Ok (en ∙ ap (λ (W : ℕ). record_at W k) z))

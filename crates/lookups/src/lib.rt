@@ -7,19 +7,12 @@ ghost use Rattle.record.specs.Layout.{decode_peer, record_size};
 ghost use Rattle.table.specs.Table.{decode_table, slot, Reaches, Reached};
 ghost use Rattle.lookups.specs.Lookups.{time_left, left_if, lesser, peer_left, least_below, asks_deadline, asks_offset, asks_good};
 
-use answers::Refusal;
+use causes::Refusal;
 use record::HEADER;
-use table::Entry;
+use table::Entrance;
 
 // All ones: there is no deadline.
 const NO_DEADLINE: u32 = 4294967295;
-
-// What a lookup answers: the number asked for, or a refusal.
-#[derive(Clone, Copy)]
-pub enum Asked {
-    Number(u32),
-    Refused(Refusal),
-}
 
 // ---- the next deadline
 
@@ -45,6 +38,7 @@ fn left_if(counts: bool, time: u32, at: u32) -> u32
     time_left(time, at)
 }
 
+// The lesser of two, tested as the definition has it: the clause of std's `min` has a function of its own.
 fn lesser_of(a: u32, b: u32) -> u32
     ensures { result ≡ lesser a b }
 {
@@ -83,64 +77,51 @@ fn left_below(t: &[u8], w: usize, n: usize, time: u32) -> u32
     ensures { result ≡ least_below (λ k. peer_left (slot (decode_table t.now) k) time) n }
 {
     let mut least = NO_DEADLINE;
-    let mut i = 0;
-    while i < n {
-        let left = left_at(t, w, i, time);
+    for k in 0..n {
+        let left = left_at(t, w, k, time);
         least = lesser_of(least, left);
-        i += 1;
     }
     least
 }
 
 // How long until the earliest deadline of the table. Cause 2.
-pub fn next_deadline(t: &[u8], time: u32) -> Asked
+pub fn next_deadline(t: &[u8], time: u32) -> Result<u32, Refusal>
     ensures { result ≡ asks_deadline t.now time }
 {
-    let c = table::check(t);
-    let whole = c.sound;
-    if !whole {
-        return Asked::Refused(Refusal::Unsound);
-    }
-    let h = c.header;
-    let n = h.geometry.slots as usize;
-    let w = record::width_of(h);
+    let header = table::check(t)?;
+    let n = header.geometry.slots as usize;
+    let w = record::width_of(header);
     let left = left_below(t, w, n, time);
-    Asked::Number(left)
+    Ok(left)
 }
 
 // ---- where a record lies
 
 // Where the record of an address lies, 0 if it has none. Causes 2, 3.
-pub fn find(t: &[u8], address: [u8; 6]) -> Asked
+pub fn find(t: &[u8], address: [u8; 6]) -> Result<u32, Refusal>
     ensures { result ≡ asks_offset t.now address }
 {
-    let e = table::enter(t, address);
-    let h = e.header;
-    let entry = e.entry;
-    match entry {
-        Entry::Unsound => Asked::Refused(Refusal::Unsound),
-        Entry::Unusable => Asked::Refused(Refusal::Address),
-        Entry::Absent => Asked::Number(0),
-        Entry::At(k) => {
-            let w = record::width_of(h);
-            let at = record::record_at(w, k);
-            Asked::Number(at as u32)
-        }
-    }
+    let Entrance { header, slot } = table::enter(t, address)?;
+    let Some(k) = slot else {
+        return Ok(0);
+    };
+    let w = record::width_of(header);
+    let at = record::record_at(w, k);
+    Ok(at as u32)
 }
 
 // ---- how many good links
 
 // The number of good links, from the octets of a header alone. Cause 2.
-pub fn good_links(header: &[u8]) -> Asked
+pub fn good_links(header: &[u8]) -> Result<u32, Refusal>
     ensures { result ≡ asks_good header.now }
 {
     if header.len() != HEADER {
-        return Asked::Refused(Refusal::Unsound);
+        return Err(Refusal::Unsound);
     }
     let h = table::header_of(header);
     if !good_links::is_possible(h) {
-        return Asked::Refused(Refusal::Unsound);
+        return Err(Refusal::Unsound);
     }
-    Asked::Number(h.counts.good as u32)
+    Ok(h.counts.good as u32)
 }

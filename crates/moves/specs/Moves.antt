@@ -1,6 +1,6 @@
 -- MOVES BETWEEN THE FORMS: "One call moves a table of 864-octet records to the 1,080 form, another moves it back; runs, deadlines and tokens go along." What
 -- a move answers and leaves in its target, as a definition of all that is handed over. The source is only read.
-use Rattle.std.specs.Prelude.{◌≡◌, Bool, true, not, ◌&&◌, List, ℕ, ◌+◌, ◌≤◌, eqb, ltb, length, if◌then◌else◌}
+use Rattle.std.specs.Prelude.{◌≡◌, Bool, true, not, ◌&&◌, List, ℕ, ◌+◌, ◌≤◌, eqb, ltb, length, if◌then◌else◌, Result, Ok, Err}
 use Rattle.octets.specs.Octets.{Bytes}
 use Rattle.groups.specs.Groups.{width, listed}
 use Rattle.record.specs.declared.Form.{Form}
@@ -90,9 +90,14 @@ moves d source target =
     else if not (fitting (target_form d) (decode_table source).header target) then refuse_move target why.Target
     else record { answer = outcome.Done; target = moved (target_form d) source }
 
+-- what a result says of it
+abbrev pub settled : Result (Unit {0}) Refusal → Outcome
+settled (Ok u) = outcome.Done
+settled (Err c) = outcome.Refused c
+
 -- a contract: the answer and the target at exit are those
-pub record Moves (r : Outcome) (u : List ℕ) (m : Moved) : Type 0 where
-  pub answer : r ≡ m.answer
+pub record Moves (r : Result (Unit {0}) Refusal) (u : List ℕ) (m : Moved) : Type 0 where
+  pub answer : settled r ≡ m.answer
   pub target : u ≡ m.target
 
 -- ---- what the copying asks

@@ -1,14 +1,15 @@
 // Moves between the forms of the table: the same contents, with records of the other size, in another buffer. The source is only read.
 #![tactic(auto)]
 
-ghost use Rattle.std.specs.Prelude.{◌≡◌, ◌++◌, ◌+◌, ◌≤◌, ltb, length, take, replicate};
+ghost use Rattle.std.specs.Prelude.{◌≡◌, not, ◌++◌, ◌+◌, ◌≤◌, ltb, length, take, replicate};
 ghost use Rattle.octets.specs.Octets.{part, put};
+ghost use Rattle.causes.specs.Causes.{passes};
 ghost use Rattle.groups.specs.Groups.{width, stored, listed};
 ghost use Rattle.record.specs.Layout.{run_peer_at, run_token_at, link_at, link_peer_at, groups_of, record_size, record_at, encode_peer, decode_peer};
 ghost use Rattle.table.specs.Table.{decode_table, octets_of, slot};
 ghost use Rattle.moves.specs.Moves.{source_form, target_form, sized, moved, hindered, hindrance, moves, Moves, Beside, BesideAll, Carried};
 
-use answers::{Outcome, Refusal};
+use causes::Refusal;
 use record::{Form, Geometry, HEADER, Header, LINK_OWN, RUN, RUN_OWN, TOKEN};
 
 // The group that only the form with records of 1,080 octets has room for.
@@ -109,10 +110,8 @@ fn move_slots(s: &[u8], w: usize, t: &mut [u8], v: usize, n: usize)
     requires { BesideAll s.now t.old w v n }
     ensures { t.new ≡ put t.old 32 (octets_of v (take n (decode_table s.now).peers)) }
 {
-    let mut i = 0;
-    while i < n {
-        move_slot(s, w, t, v, i);
-        i += 1;
+    for k in 0..n {
+        move_slot(s, w, t, v, k);
     }
 }
 
@@ -120,20 +119,9 @@ fn move_slots(s: &[u8], w: usize, t: &mut [u8], v: usize, n: usize)
 fn sized(h: Header, size: u16) -> Header
     ensures { result ≡ sized h size }
 {
-    let geometry = Geometry {
-        slots: h.geometry.slots,
-        size: size,
-        first: h.geometry.first,
-    };
-    let counts = h.counts;
-    let own = h.own;
-    let settings = h.settings;
     Header {
-        geometry: geometry,
-        counts: counts,
-        spare: h.spare,
-        own: own,
-        settings: settings,
+        geometry: Geometry { size, ..h.geometry },
+        ..h
     }
 }
 
@@ -151,21 +139,25 @@ fn carry(s: &[u8], h: Header, f: Form, t: &mut [u8])
 
 // ---- the moves
 
-fn source_form(d: Direction) -> Form
-    ensures { result ≡ source_form d }
-{
-    match d {
-        Direction::Forward => record::narrow(),
-        Direction::Back => record::wide(),
+impl Direction {
+    // The form that the source has.
+    fn source(self) -> Form
+        ensures { result ≡ source_form self }
+    {
+        match self {
+            Direction::Forward => record::narrow(),
+            Direction::Back => record::wide(),
+        }
     }
-}
 
-fn target_form(d: Direction) -> Form
-    ensures { result ≡ target_form d }
-{
-    match d {
-        Direction::Forward => record::wide(),
-        Direction::Back => record::narrow(),
+    // The form that the target gets.
+    fn target(self) -> Form
+        ensures { result ≡ target_form self }
+    {
+        match self {
+            Direction::Forward => record::wide(),
+            Direction::Back => record::narrow(),
+        }
     }
 }
 
@@ -174,9 +166,7 @@ fn lists_wide_group(h: Header) -> bool
     requires { h.settings.count ≤ 3 }
     ensures { result ≡ listed (groups_of h) 21 }
 {
-    let list = h.settings.groups;
-    let n = h.settings.count as usize;
-    groups::is_listed(&list[..n], WIDE_GROUP)
+    groups::is_listed(h.settings.listed(), WIDE_GROUP)
 }
 
 // "forward with more than 60 slots", the most of the form there
@@ -187,47 +177,42 @@ fn has_more_slots(h: Header) -> bool
     form.slots < h.geometry.slots
 }
 
-fn is_hindered(d: Direction, h: Header) -> bool
-    requires { h.settings.count ≤ 3 }
-    ensures { result ≡ hindered d h }
+// A cause where its hindrance is there.
+fn unless(hindered: bool, cause: Refusal) -> Result<(), Refusal>
+    ensures { result ≡ passes (not hindered) cause }
 {
-    match d {
-        Direction::Forward => has_more_slots(h),
-        Direction::Back => lists_wide_group(h),
+    if hindered {
+        return Err(cause);
     }
+    Ok(())
 }
 
-fn hindrance_of(d: Direction) -> Refusal
-    ensures { result ≡ hindrance d }
+// What only one of the two directions asks. Causes 15 or 16.
+fn hinder(d: Direction, h: Header) -> Result<(), Refusal>
+    requires { h.settings.count ≤ 3 }
+    ensures { result ≡ passes (not (hindered d h)) (hindrance d) }
 {
     match d {
-        Direction::Forward => Refusal::Slots,
-        Direction::Back => Refusal::Group,
+        Direction::Forward => unless(has_more_slots(h), Refusal::Slots),
+        Direction::Back => unless(lists_wide_group(h), Refusal::Group),
     }
 }
 
 // A table moved into a target of the other form. Causes 2, 15 or 16, 1.
-pub fn move_table(d: Direction, source: &[u8], target: &mut [u8]) -> Outcome
+pub fn move_table(d: Direction, source: &[u8], target: &mut [u8]) -> Result<(), Refusal>
     ensures { Moves result target.new (moves d source.now target.old) }
 {
-    let c = table::check(source);
-    let whole = c.sound;
-    if !whole {
-        return Outcome::Refused(Refusal::Unsound);
+    let header = table::check(source)?;
+    let from = d.source();
+    if header.geometry.size != from.size {
+        return Err(Refusal::Unsound);
     }
-    let h = c.header;
-    let from = source_form(d);
-    if h.geometry.size != from.size {
-        return Outcome::Refused(Refusal::Unsound);
-    }
-    if is_hindered(d, h) {
-        return Outcome::Refused(hindrance_of(d));
-    }
-    let to = target_form(d);
-    let n = h.geometry.slots as usize;
+    hinder(d, header)?;
+    let to = d.target();
+    let n = header.geometry.slots as usize;
     if target.len() != record::record_at(to.width, n) {
-        return Outcome::Refused(Refusal::Target);
+        return Err(Refusal::Target);
     }
-    carry(source, h, to, target);
-    Outcome::Done
+    carry(source, header, to, target);
+    Ok(())
 }

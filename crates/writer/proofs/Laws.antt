@@ -1,14 +1,13 @@
 -- Laws of the writer: what each function's cases show of their definitions.
 use Rattle.std.specs.Prelude.{Result, Err, Option, Some, None, Ok}
 use mathlib.Core.Path.{◌≡◌, refl, sym, ap, ◌∙◌, subst}
-use mathlib.Core.Bool.{Bool, true, false, not}
+use mathlib.Core.Bool.{true}
 use mathlib.Core.List.{List}
 use mathlib.Core.Logic.{inl, inr}
 use Prim.Native.Nat.{ℕ, ◌+◌, ◌-◌, ◌≤◌}
 use native.Mathlib.Omega.{arith}
 use lib.ListN.{length, take, drop}
-use lib.Seq.{length-take-le}
-use borrow.Author.Tests.{eqb-true, eq-eqb, ne_eqb, not-true}
+use borrow.Author.Tests.{eqb-true, eq-eqb, ne_eqb}
 use Rattle.octets.specs.Octets.{part}
 use Rattle.octets.proofs.Laws.{length_part}
 use Rattle.octets.proofs.Scan.{and_left}
@@ -18,61 +17,44 @@ use Rattle.frame.specs.Writing.{Drawn, draw_commit, draw_confirm, parts_body, Wr
 use Rattle.frame.proofs.Laws.{outside, drawn}
 use Rattle.record.specs.declared.Header.{Header}
 use Rattle.record.specs.declared.Peer.{Peer}
-use Rattle.record.specs.Layout.{decode_peer, record_size, record_at, groups_of, width_in, decode_header, header_of}
+use Rattle.record.specs.Layout.{decode_peer, record_size, record_at, groups_of, width_in}
 use Rattle.record.proofs.Windows.{token-law}
 use Rattle.soundness.specs.Soundness.{high_sync}
 use Rattle.soundness.proofs.Laws.{header-count, InUse, peer-in-use, run-states, run-is-committed, run-is-confirmed}
 use Rattle.soundness.proofs.Storable.{header-room}
-use Rattle.table.specs.Table.{decode_table, slot, sound, entry, belongs, Reached, Enters}
+use Rattle.table.specs.Table.{decode_table, slot, entry, checked, entering, belongs, Reached, Looked, Enters}
 use Rattle.table.specs.declared.Entrance.{Entrance}
-use Rattle.table.proofs.Laws.{entry-found, sound-by, sound-header, sound-peer, found_below, reached}
+use Rattle.table.proofs.Laws.{entry-found, unsound, enters-refused, sound-header, sound-peer, found_below, reached}
 use Rattle.table.proofs.Octets.{window-law, window-length}
 use Rattle.causes.specs.declared.Refusal.{Refusal}
 use Rattle.causes.specs.declared.Refusal.TheVariants as why
-use Rattle.writer.specs.Writer.{LeavesOut, refuse_out, wrote_of, draws, writes_parts, record_commit, record_confirm, record_body, Bounded, writes_record_by, writes_record}
+use Rattle.writer.specs.Writer.{LeavesOut, draws, writes_parts, record_commit, record_confirm, record_body, Bounded, writes_record_by, writes_record}
 
 -- ---- what is answered
 
-pub wrote_by : (w v : Result ℕ Refusal) (r : Result ℕ Refusal) → w ≡ v → r ≡ wrote_of v → r ≡ wrote_of w
-wrote_by w v r e q = q ∙ ap wrote_of (sym e)
-
-pub drawn-out : (d : Drawn) (given left : List ℕ) (w : Result ℕ Refusal) (r : Result ℕ Refusal) → Writes d given left w → r ≡ wrote_of w → LeavesOut r left (draws d given)
+pub drawn-out : (d : Drawn) (given left : List ℕ) (r : Result ℕ Refusal) → Writes d given left r → LeavesOut r left (draws d given)
 unfolding draws
-drawn-out d given left w r l q = record { answer = q ∙ ap wrote_of l.answers; out = l.left_as }
+drawn-out d given left r l = record { answer = l.answers; out = l.left_as }
 
 -- ---- the header of a sound table
 
-three-groups : (t : List ℕ) → length (decode_table t).header.settings.groups ≡ 3
-unfolding decode_table decode_header header_of
-three-groups t = refl
-
-module _ (t : List ℕ) (s : sound t ≡ true) (h : Header) (e : h ≡ (decode_table t).header) where
-  pub few : h.settings.count ≤ 3
-  few = rw e (header-count _ (sound-header t s))
-
-  three : length h.settings.groups ≡ 3
-  three = ap (λ (x : Header). length x.settings.groups) e ∙ three-groups t
-
-  pub share : h.settings.count ≤ length h.settings.groups
-  share = let f = few in let w = three in omega arith
-
-  pub listed-are : h.settings.count ≡ length (take h.settings.count h.settings.groups)
-  listed-are = sym (length-take-le h.settings.count h.settings.groups share)
+pub few : (t : List ℕ) (h : Header) → Looked t h → h.settings.count ≤ 3
+few t h L = rw L.header (header-count _ (sound-header t L.whole))
 
 -- ---- from a frame's parts
 
-module _ (t : List ℕ) (q x g n : ℕ) (token rest out : List ℕ) (b : Bool) (p : b ≡ sound t) where
-  pub parts-unsound : not b ≡ true → LeavesOut (Err why.Unsound) out (writes_parts t q x g n token rest out)
+module _ (t : List ℕ) (q x g n : ℕ) (token rest out : List ℕ) where
+  pub parts-refused : (c : Refusal) (r : Result ℕ Refusal) → r ≡ Err c → checked t ≡ Err c → LeavesOut r out (writes_parts t q x g n token rest out)
   unfolding writes_parts
-  parts-unsound k = let z : sound t ≡ false = sym p ∙ not-true b k in rw z (record { answer = refl; out = refl })
+  parts-refused c r k e = let u = unsound t c e in rw u.0 (record { answer = k ∙ ap Err u.1; out = refl })
 
-  pub parts-drawn : (h : Header) (left : List ℕ) (w : Result ℕ Refusal) (r : Result ℕ Refusal) → not b ≡ false → h ≡ (decode_table t).header
-      → Writes (parts_body (groups_of h) q x g n token rest) out left w → r ≡ wrote_of w → LeavesOut r left (writes_parts t q x g n token rest out)
+  pub parts-drawn : (h : Header) (left : List ℕ) (r : Result ℕ Refusal) → Looked t h → (gs : List ℕ) → gs ≡ groups_of h
+      → Writes (parts_body gs q x g n token rest) out left r → LeavesOut r left (writes_parts t q x g n token rest out)
   unfolding writes_parts
-  parts-drawn h left w r k e l a =
-      let z : sound t ≡ true = sound-by t b p k in
-      let m : Writes (parts_body (groups_of (decode_table t).header) q x g n token rest) out left w = subst (λ (y : Header). Writes (parts_body (groups_of y) q x g n token rest) out left w) e l in
-      rw z (drawn-out _ out left w r m a)
+  parts-drawn h left r L gs eg l =
+      let m : Writes (parts_body (groups_of (decode_table t).header) q x g n token rest) out left r =
+      subst (λ (y : List ℕ). Writes (parts_body y q x g n token rest) out left r) (eg ∙ ap groups_of L.header) l in
+      rw L.whole (drawn-out _ out left r m)
 
 -- ---- from a record: its Commit, its Confirm, from the fields as they are read
 
@@ -155,64 +137,52 @@ run-names own gs high p u d = elim (run-states gs high p.run u.run) [
   ]
 ]
 
-module _ (t a : List ℕ) (r : Entrance) (E : Enters r t a) where
-  pub record-refused : (x : Result (Option ℕ) Refusal) (c : Refusal) (q : ℕ) (value out : List ℕ) → r.entry ≡ x → ((y : Result (Option ℕ) Refusal) → y ≡ x → writes_record_by y t q value out ≡ refuse_out out c)
-      → LeavesOut (Err c) out (writes_record t a q value out)
-  unfolding writes_record
-  record-refused x c q value out k f = rw (f (entry t a) (sym E.entry ∙ k)) (record { answer = refl; out = refl })
+pub none-found : (f : Option ℕ) → ((k : ℕ) → f ≡ Some k → ⊥) → f ≡ None
+none-found None d = refl
+none-found (Some k) d = absurd (d k refl)
 
-  module _ (q : ℕ) (value out : List ℕ) where
-    pub record-unsound : r.entry ≡ Err why.Unsound → LeavesOut (Err why.Unsound) out (writes_record t a q value out)
-    unfolding writes_record_by
-    record-unsound k = record-refused (Err why.Unsound) why.Unsound q value out k (λ y z. rw z)
+module _ (t a : List ℕ) (q : ℕ) (value out : List ℕ) where
+  pub record-refused : (c : Refusal) (r : Result ℕ Refusal) → r ≡ Err c → entering t a ≡ Err c → LeavesOut r out (writes_record t a q value out)
+  unfolding writes_record writes_record_by
+  record-refused c r k e = rw (enters-refused t a c e) (record { answer = k; out = refl })
 
-    pub record-unusable : r.entry ≡ Err why.Address → LeavesOut (Err why.Address) out (writes_record t a q value out)
-    unfolding writes_record_by
-    record-unusable k = record-refused (Err why.Address) why.Address q value out k (λ y z. rw z)
+  pub record-absent : (r : Entrance) → Enters r t a → r.slot ≡ None → LeavesOut (Err why.Body) out (writes_record t a q value out)
+  unfolding writes_record writes_record_by
+  record-absent r E k = rw (E.entry ∙ ap Ok k) (record { answer = refl; out = refl })
 
-    pub record-absent : r.entry ≡ Ok None → LeavesOut (Err why.Body) out (writes_record t a q value out)
-    unfolding writes_record_by
-    record-absent k = record-refused (Ok None) why.Body q value out k (λ y z. rw z)
+module _ (t a : List ℕ) (r : Entrance) (E : Enters r t a) (k : ℕ) (at : r.slot ≡ Some k) where
+  here : entry t a ≡ Ok (Some k)
+  here = E.entry ∙ ap Ok at
 
-  module _ (k : ℕ) (at : r.entry ≡ Ok (Some k)) where
-    here : entry t a ≡ Ok (Some k)
-    here = sym E.entry ∙ at
+  module _ (w : ℕ) (W : (w ≡ width_in r.header) × (w ≤ width)) where
+    pub at-reached : Reached t w k
+    at-reached = reached t r.header w k E.looked.whole E.looked.header W.0 W.1 (found_below (decode_table t) a k (entry-found t a (Some k) here).1.1).0
 
-    pub at-sound : sound t ≡ true
-    at-sound = (entry-found t a (Some k) here).0
+    roomy : (g : ℕ) → listed (groups_of (decode_table t).header) g ≡ true → commit_length g ≤ w
+    roomy g l = rw (W.0, E.looked.header) ((header-room _ (sound-header t E.looked.whole)).each g l)
 
-    pub at-header : r.header ≡ (decode_table t).header
-    at-header = E.header at-sound
+    -- the window of its octets, as it is lent
+    module _ (b n : ℕ) (eb : b ≡ record_at w k) (en : n ≡ record_size w) where
+      in_window : decode_peer w (take (b + n - b) (drop b t)) ≡ slot (decode_table t) k
+      in_window = window-law t w k b at-reached eb n en
 
-    module _ (w : ℕ) (W : (w ≡ width_in r.header) × (w ≤ width)) where
-      pub at-reached : Reached t w k
-      at-reached = reached t r.header w k at-sound at-header W.0 W.1 (found_below (decode_table t) a k (entry-found t a (Some k) here).1.1).0
+      pub at-bounded : Bounded (take (b + n - b) (drop b t)) w
+      at-bounded =
+          let u : ((slot (decode_table t) k).run.state ≡ 0 → ⊥) → (listed (groups_of (decode_table t).header) (slot (decode_table t) k).run.group ≡ true) × ((slot (decode_table t) k).run.toklen ≤ 256) =
+          run-names _ _ _ _ (in-use-at t a k here) in
+          record {
+            size = window-length t w k b at-reached eb n en;
+            most = W.1;
+            token = subst (λ (x : Peer). (x.run.state ≡ 0 → ⊥) → x.run.toklen ≤ 256) (sym in_window) (λ d. (u d).1);
+            own = subst (λ (x : Peer). (x.run.state ≡ 0 → ⊥) → commit_length x.run.group ≤ w) (sym in_window) (λ d. roomy _ (u d).0);
+          }
 
-      roomy : (g : ℕ) → listed (groups_of (decode_table t).header) g ≡ true → commit_length g ≤ w
-      roomy g l = rw (W.0, at-header) ((header-room _ (sound-header t at-sound)).each g l)
-
-      -- the window of its octets, as it is lent
-      module _ (b n : ℕ) (eb : b ≡ record_at w k) (en : n ≡ record_size w) where
-        in_window : decode_peer w (take (b + n - b) (drop b t)) ≡ slot (decode_table t) k
-        in_window = window-law t w k b at-reached eb n en
-
-        pub at-bounded : Bounded (take (b + n - b) (drop b t)) w
-        at-bounded =
-            let u : ((slot (decode_table t) k).run.state ≡ 0 → ⊥) → (listed (groups_of (decode_table t).header) (slot (decode_table t) k).run.group ≡ true) × ((slot (decode_table t) k).run.toklen ≤ 256) =
-            run-names _ _ _ _ (in-use-at t a k here) in
-            record {
-              size = window-length t w k b at-reached eb n en;
-              most = W.1;
-              token = subst (λ (x : Peer). (x.run.state ≡ 0 → ⊥) → x.run.toklen ≤ 256) (sym in_window) (λ d. (u d).1);
-              own = subst (λ (x : Peer). (x.run.state ≡ 0 → ⊥) → commit_length x.run.group ≤ w) (sym in_window) (λ d. roomy _ (u d).0);
-            }
-
-        pub record-drawn : (q : ℕ) (value out left : List ℕ) (y : Result ℕ Refusal) (z : Result ℕ Refusal)
-            → Writes (record_body (groups_of r.header) (decode_peer w (take (b + n - b) (drop b t))) q value) out left y → z ≡ wrote_of y → LeavesOut z left (writes_record t a q value out)
-        unfolding writes_record writes_record_by
-        record-drawn q value out left y z l e =
-            let l1 : Writes (record_body (groups_of (decode_table t).header) (decode_peer w (take (b + n - b) (drop b t))) q value) out left y =
-            subst (λ (x : Header). Writes (record_body (groups_of x) (decode_peer w (take (b + n - b) (drop b t))) q value) out left y) at-header l in
-            let l2 : Writes (record_body (groups_of (decode_table t).header) (slot (decode_table t) k) q value) out left y =
-            subst (λ (x : Peer). Writes (record_body (groups_of (decode_table t).header) x q value) out left y) in_window l1 in
-            rw here (drawn-out _ out left y z l2 e)
+      pub record-drawn : (q : ℕ) (value out left : List ℕ) (y : Result ℕ Refusal) (gs : List ℕ) → gs ≡ groups_of r.header
+          → Writes (record_body gs (decode_peer w (take (b + n - b) (drop b t))) q value) out left y → LeavesOut y left (writes_record t a q value out)
+      unfolding writes_record writes_record_by
+      record-drawn q value out left y gs eg l =
+          let l1 : Writes (record_body (groups_of (decode_table t).header) (decode_peer w (take (b + n - b) (drop b t))) q value) out left y =
+          subst (λ (x : List ℕ). Writes (record_body x (decode_peer w (take (b + n - b) (drop b t))) q value) out left y) (eg ∙ ap groups_of E.looked.header) l in
+          let l2 : Writes (record_body (groups_of (decode_table t).header) (slot (decode_table t) k) q value) out left y =
+          subst (λ (x : Peer). Writes (record_body (groups_of (decode_table t).header) x q value) out left y) in_window l1 in
+          rw here (drawn-out _ out left y l2)

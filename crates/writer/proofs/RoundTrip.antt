@@ -27,7 +27,7 @@ use Rattle.table.proofs.Laws.{entry-found}
 use Rattle.rules.specs.Book.{◌is◌, ◌isnt◌}
 use Rattle.message.specs.View.{view}
 use Rattle.causes.specs.declared.Refusal.TheVariants as why
-use Rattle.writer.specs.Writer.{LeftOut, refuse_out, wrote_of, draws, writes_parts, record_commit, record_confirm, record_body, writes_record_by, writes_record}
+use Rattle.writer.specs.Writer.{LeftOut, refuse_out, draws, writes_parts, record_commit, record_confirm, record_body, writes_record_by, writes_record}
 use Rattle.writer.specs.RoundTrip.{Parts, rest_of, parts_in, groups_in, writes_from, Copied, Again, CommitAgain, ConfirmAgain}
 use Rattle.writer.specs.RoundTrip.{Supports, Numbers, Back, commit_parts, confirm_parts, record_parts}
 use Rattle.writer.proofs.Theorems.{fits}
@@ -91,7 +91,7 @@ module _ (t s : List ℕ) (k : sound t ≡ true) where
   copied-long : (u v out : List ℕ) (l : LeftOut) → length u ≤ length out → length v ≤ length out → Copied u out l → Copied v out l → length u ≡ length v
   copied-long u v out l h j c d = same (sym (ap (λ (x : LeftOut). x.answer) (c.whole h)) ∙ ap (λ (x : LeftOut). x.answer) (d.whole j))
     where
-      same : Ok (length u) ≡ Ok (length v) → length u ≡ length v
+      same : ◌≡◌ {A = Result ℕ Refusal} (Ok (length u)) (Ok (length v)) → length u ≡ length v
       same q = cc
 
   pub confirms-again : Bytes s → ConfirmAgain t s
@@ -192,12 +192,7 @@ drew-numbers gs s p gb nb (drew_confirm w) = record { sequence = inr refl; statu
 -- what was drawn stands in the buffer
 drawn-wrote : (d : Drawn) (out : List ℕ) (m : ℕ) → (draws d out).answer ≡ Ok m → frame-wrote.Wrote d out (draws d out).out m
 unfolding draws
-drawn-wrote d out m e = frame-wrote.wrote d out (leaves d out) m (record { answers = sym (go (written d out) e); left_as = refl })
-  where
-    go : (w : Result ℕ Refusal) → wrote_of w ≡ Ok m → w ≡ Ok m
-    go (Ok k) h = cc
-    go (Err why.Body) h = let z : ◌≡◌ {A = ℕ} 0 1 = cc in absurd (omega arith)
-    go (Err why.Short) h = let z : ◌≡◌ {A = ℕ} 0 1 = cc in absurd (omega arith)
+drawn-wrote d out m e = frame-wrote.wrote d out (leaves d out) m (record { answers = sym e; left_as = refl })
 
 module _ (t : List ℕ) (p : Parts) (d : Drawn) (out : List ℕ) (m : ℕ) (gb : p.group < 65536) (nb : p.counter < 65536) where
   drawn-back : ((s : List ℕ) → d ≡ Octets s → Drew (groups_in t) s p) → (draws d out).answer ≡ Ok m → Back t p out (draws d out).out m
@@ -273,8 +268,7 @@ module _ (t a : List ℕ) (q : ℕ) (value out : List ℕ) (m : ℕ) where
       here k h = rw h
 
       go : (E : Result (Option ℕ) Refusal) → entry t a ≡ E → (written_of E).answer ≡ Ok m → Back t (record_parts (look (decode_table t) a) q value) out (written_of E).out m
-      go (Err why.Unsound) e h = let z : ◌≡◌ {A = ℕ} 0 1 = cc in absurd (omega arith)
-      go (Err why.Address) e h = let z : ◌≡◌ {A = ℕ} 0 1 = cc in absurd (omega arith)
+      go (Err c) e h = let z : ◌≡◌ {A = ℕ} 0 1 = cc in absurd (omega arith)
       go (Ok None) e h = let z : ◌≡◌ {A = ℕ} 0 1 = cc in absurd (omega arith)
       go (Ok (Some k)) e h =
           let f = (fits t a k e b).run.shape in

@@ -23,7 +23,7 @@ use Rattle.record.specs.Layout.{record_at, groups_of}
 use Rattle.record.proofs.Laws.{FitPeer}
 use Rattle.soundness.specs.Soundness.{usable, high_sync}
 use Rattle.soundness.proofs.Laws.{InUse}
-use Rattle.table.specs.Table.{width_of, decode_table, slot, slots, sound, entry, found_entry, finds}
+use Rattle.table.specs.Table.{width_of, decode_table, slot, slots, sound, entry, finds}
 use Rattle.table.proofs.Laws.{entry-found, sound-whole, peers-held, found_below}
 use Rattle.table.proofs.Fit.{fit-decoded, fit-slot}
 use Rattle.causes.specs.declared.Refusal.{Refusal}
@@ -75,20 +75,20 @@ pub data FromRecord (t a : List ℕ) (q : ℕ) (value out : List ℕ) : LeftOut 
 
 module _ (t a : List ℕ) (q : ℕ) (value out : List ℕ) where
   pub record-one : FromRecord t a q value out (writes_record t a q value out)
-  unfolding writes_record entry found_entry writes_record_by
+  unfolding writes_record entry writes_record_by
   record-one = go (sound t) refl
     where
-      third : (f : Option ℕ) → sound t ≡ true → usable (decode_table t).header.own a ≡ true → finds (decode_table t) a ≡ f → FromRecord t a q value out (writes_record_by (found_entry f) t q value out)
+      third : (f : Option ℕ) → sound t ≡ true → usable (decode_table t).header.own a ≡ true → finds (decode_table t) a ≡ f → FromRecord t a q value out (writes_record_by (Ok f) t q value out)
       third (Some k) e u h = drawn k e u h (draws-one _ out)
       third None e u h = absent e u h
 
       second : (b : Bool) → sound t ≡ true → usable (decode_table t).header.own a ≡ b
-          → FromRecord t a q value out (writes_record_by (if not b then (Err why.Address) else found_entry (finds (decode_table t) a)) t q value out)
+          → FromRecord t a q value out (writes_record_by (if not b then (Err why.Address) else Ok (finds (decode_table t) a)) t q value out)
       second true e u = third (finds (decode_table t) a) e u refl
       second false e u = unusable e u
 
       first : (b : Bool) → sound t ≡ b
-          → FromRecord t a q value out (writes_record_by (if not b then (Err why.Unsound) else if not (usable (decode_table t).header.own a) then (Err why.Address) else found_entry (finds (decode_table t) a)) t q value out)
+          → FromRecord t a q value out (writes_record_by (if not b then (Err why.Unsound) else if not (usable (decode_table t).header.own a) then (Err why.Address) else Ok (finds (decode_table t) a)) t q value out)
       first true e = second (usable (decode_table t).header.own a) e refl
       first false e = unsound e
 
@@ -187,7 +187,7 @@ module _ (t a : List ℕ) (k : ℕ) (e : entry t a ≡ Ok (Some k)) where
     -- for every reader whose list has the group
     pub commit-reads-back : (hs : List ℕ) → listed hs here.run.group ≡ true → read_body hs (commit_body here.run.group token own) ≡ Some (body_is.Commit here.run.group here.run.toklen)
     commit-reads-back hs l =
-        commit-reads hs here.run.group token own l (fits b).run.shape.group (omega (arith, token-length, supported.1)) own-length ∙ ap (body_is.Commit here.run.group) token-length
+        commit-reads hs here.run.group token own l (fits b).run.shape.group (omega (arith, token-length, supported.1)) own-length ∙ ap (λ (n : ℕ). Some (body_is.Commit here.run.group n)) token-length
 
     pub token_back : token_of (commit_body here.run.group token own) here.run.toklen ≡ token
     token_back = ap (token_of (commit_body here.run.group token own)) (sym token-length) ∙ commit-token-back here.run.group token own

@@ -5,28 +5,10 @@ ghost use Rattle.std.specs.Prelude.{◌≡◌, ◌≤◌, length};
 ghost use Rattle.frame.specs.Writing.{Writes};
 ghost use Rattle.groups.specs.Groups.{width};
 ghost use Rattle.record.specs.Layout.{decode_peer, record_size};
-ghost use Rattle.writer.specs.Writer.{LeavesOut, wrote_of, writes_parts, record_commit, record_confirm, record_body, Bounded, writes_record};
+ghost use Rattle.writer.specs.Writer.{LeavesOut, writes_parts, record_commit, record_confirm, record_body, Bounded, writes_record};
 
-use answers::Refusal;
-use frame::Written;
-use table::Entry;
-
-// What a writer answers: the length written, or a refusal.
-#[derive(Clone, Copy)]
-pub enum Wrote {
-    Length(usize),
-    Refused(Refusal),
-}
-
-fn wrote_of(w: Written) -> Wrote
-    ensures { result ≡ wrote_of w }
-{
-    match w {
-        Written::Length(n) => Wrote::Length(n),
-        Written::Shape => Wrote::Refused(Refusal::Body),
-        Written::Short => Wrote::Refused(Refusal::Short),
-    }
-}
+use causes::Refusal;
+use table::Entrance;
 
 // Write a frame from its parts. Causes 2, 7, 11.
 pub fn write_parts(
@@ -38,19 +20,12 @@ pub fn write_parts(
     token: &[u8],
     rest: &[u8],
     out: &mut [u8],
-) -> Wrote
+) -> Result<usize, Refusal>
     ensures { LeavesOut result out.new (writes_parts t.now sequence status group counter token.now rest.now out.old) }
 {
-    let c = table::check(t);
-    let whole = c.sound;
-    if !whole {
-        return Wrote::Refused(Refusal::Unsound);
-    }
-    let h = c.header;
-    let list = h.settings.groups;
-    let n = h.settings.count as usize;
-    let written = frame::write_parts(
-        &list[..n],
+    let header = table::check(t)?;
+    frame::write_parts(
+        header.settings.listed(),
         sequence,
         status,
         group,
@@ -58,18 +33,17 @@ pub fn write_parts(
         token,
         rest,
         out,
-    );
-    wrote_of(written)
+    )
 }
 
 // The run's Commit.
-fn write_run_commit(groups: &[u16], s: &[u8], w: usize, out: &mut [u8]) -> Written
+fn write_run_commit(groups: &[u16], s: &[u8], w: usize, out: &mut [u8]) -> Result<usize, Refusal>
     requires { Bounded s.now w }
     ensures { Writes (record_commit groups.now (decode_peer w s.now)) out.old out.new result }
 {
     let state = record::state_of(s, w);
     if state == 0 {
-        return Written::Shape;
+        return Err(Refusal::Body);
     }
     let group = record::group_of(s, w);
     let token = record::token_of(s, w);
@@ -80,7 +54,7 @@ fn write_run_commit(groups: &[u16], s: &[u8], w: usize, out: &mut [u8]) -> Writt
 }
 
 // The Confirm: Sc of a run in Confirmed, 65,535 of a link with no run.
-fn write_record_confirm(s: &[u8], w: usize, value: &[u8], out: &mut [u8]) -> Written
+fn write_record_confirm(s: &[u8], w: usize, value: &[u8], out: &mut [u8]) -> Result<usize, Refusal>
     requires { (length s.now ≡ record_size w) × (w ≤ width) }
     ensures { Writes (record_confirm (decode_peer w s.now) value.now) out.old out.new result }
 {
@@ -90,13 +64,13 @@ fn write_record_confirm(s: &[u8], w: usize, value: &[u8], out: &mut [u8]) -> Wri
         return frame::write_confirm(sc, value, out);
     }
     if state != 0 {
-        return Written::Shape;
+        return Err(Refusal::Body);
     }
     let finished = record::finished_of(s, w);
     if finished != 0 {
         return frame::write_confirm(65535, value, out);
     }
-    Written::Shape
+    Err(Refusal::Body)
 }
 
 // Which of a record's frames is wanted.
@@ -107,7 +81,7 @@ fn write_peer(
     sequence: u16,
     value: &[u8],
     out: &mut [u8],
-) -> Written
+) -> Result<usize, Refusal>
     requires { Bounded s.now w }
     ensures { Writes (record_body groups.now (decode_peer w s.now) sequence value.now) out.old out.new result }
 {
@@ -117,7 +91,7 @@ fn write_peer(
     if sequence == 2 {
         return write_record_confirm(s, w, value, out);
     }
-    Written::Shape
+    Err(Refusal::Body)
 }
 
 // Write a frame of a record. Causes 2, 3, 7, 11.
@@ -127,24 +101,15 @@ pub fn write_record(
     sequence: u16,
     value: &[u8],
     out: &mut [u8],
-) -> Wrote
+) -> Result<usize, Refusal>
     ensures { LeavesOut result out.new (writes_record t.now address sequence value.now out.old) }
 {
-    let e = table::enter(t, address);
-    let h = e.header;
-    let entry = e.entry;
-    match entry {
-        Entry::Unsound => Wrote::Refused(Refusal::Unsound),
-        Entry::Unusable => Wrote::Refused(Refusal::Address),
-        Entry::Absent => Wrote::Refused(Refusal::Body),
-        Entry::At(k) => {
-            let list = h.settings.groups;
-            let n = h.settings.count as usize;
-            let w = record::width_of(h);
-            let a = record::record_at(w, k);
-            let e = a + record::record_size(w);
-            let written = write_peer(&list[..n], &t[a..e], w, sequence, value, out);
-            wrote_of(written)
-        }
-    }
+    let Entrance { header, slot } = table::enter(t, address)?;
+    let Some(k) = slot else {
+        return Err(Refusal::Body);
+    };
+    let w = record::width_of(header);
+    let a = record::record_at(w, k);
+    let e = a + record::record_size(w);
+    write_peer(header.settings.listed(), &t[a..e], w, sequence, value, out)
 }

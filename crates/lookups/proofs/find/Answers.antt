@@ -1,21 +1,22 @@
-use Rattle.std.proofs.Common.{arith}
-use Rattle.lookups.proofs.Laws.{offset-refused, offset-unusable, offset-absent, offset_at, offset-small}
+use Rattle.std.proofs.Common.{arith, sym, ◌∙◌}
+use Rattle.causes.proofs.Laws.{handed-on}
+use Rattle.table.proofs.Laws.{enters}
+use Rattle.lookups.proofs.Laws.{none-found, offset-refused, offset-absent, offset_at, offset-small}
 use Rattle.lookups.proofs.find.Goals as goal
 
 pub record_at-at-requires : goal.record_at-at-requires
-record_at-at-requires c = (c.width_of-w.ensures.1, omega (arith, (let e = c.enter-e in offset-small _ _ _ e.ensures.entry _ c.in-At.is e.result.header c.width_of-w.result e.ensures.header c.width_of-w.ensures.0 c.width_of-w.ensures.1)))
+record_at-at-requires c = let e = enters _ _ _ (sym c.enter.ensures ∙ c.in_ok-header.was) in
+    (c.width_of-w.ensures.1, omega (arith, offset-small _ _ _ e _ c.in-Some.is c.width_of-w.result c.width_of-w.ensures.1))
 
 pub overflow_cast-result : goal.overflow_cast-result
-overflow_cast-result c = omega (arith, c.record_at-at.ensures, (let e = c.enter-e in offset-small _ _ _ e.ensures.entry _ c.in-At.is e.result.header c.width_of-w.result e.ensures.header c.width_of-w.ensures.0 c.width_of-w.ensures.1))
+overflow_cast-result c = let e = enters _ _ _ (sym c.enter.ensures ∙ c.in_ok-header.was) in
+    omega (arith, c.record_at-at.ensures, offset-small _ _ _ e _ c.in-Some.is c.width_of-w.result c.width_of-w.ensures.1)
 
-pub returns-in-Unsound : goal.returns-in-Unsound
-returns-in-Unsound c = offset-refused _ _ _ c.enter-e.ensures.entry c.in-Unsound.is
+pub returns-in_err-header : goal.returns-in_err-header
+returns-in_err-header c = offset-refused _ _ _ _ (handed-on _ _ c.from_residual.ensures.1) (sym c.enter.ensures ∙ c.in_err-header.was)
 
-pub returns-in-Unusable : goal.returns-in-Unusable
-returns-in-Unusable c = offset-unusable _ _ _ c.enter-e.ensures.entry c.in-Unusable.is
+pub returns-in_default : goal.returns-in_default
+returns-in_default c = offset-absent _ _ _ (enters _ _ _ (sym c.enter.ensures ∙ c.in_ok-header.was)) (none-found _ c.in_default.not-Some)
 
-pub returns-in-Absent : goal.returns-in-Absent
-returns-in-Absent c = offset-absent _ _ _ c.enter-e.ensures.entry c.in-Absent.is
-
-pub returns-in-At : goal.returns-in-At
-returns-in-At c = let e = c.enter-e in offset_at _ _ _ e.ensures.entry _ c.in-At.is e.result.header _ e.ensures.header c.width_of-w.ensures.0 c.width_of-w.ensures.1 _ c.record_at-at.ensures
+pub returns : goal.returns
+returns c = offset_at _ _ _ (enters _ _ _ (sym c.enter.ensures ∙ c.in_ok-header.was)) _ c.in-Some.is _ c.width_of-w.ensures.0 _ c.record_at-at.ensures

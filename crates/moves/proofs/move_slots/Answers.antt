@@ -3,14 +3,17 @@ use borrow.Author.Rules.{rules}
 use Rattle.moves.proofs.Carries.{none_yet, one-beside, one_more, all_done}
 use Rattle.moves.proofs.move_slots.Goals as goal
 
-pub loop-i-init : goal.loop-i-init
-loop-i-init c = (search rules, none_yet c.args.s.now c.args.t.now c.args.w c.args.v c.args.n (λ i. search rules) c.requires)
+pub loop-k-init : goal.loop-k-init
+loop-k-init c = let k = c in none_yet k.args.s.now k.args.t.now k.args.w k.args.v k.args.n (λ i. search rules) k.requires
 
 pub move_slot-requires : goal.move_slot-requires
-move_slot-requires c = one-beside c.args.s.now c.args.t.now c.args.w c.args.v c.args.n (λ i. search rules) c.requires _ _ c.loop-i-test.true c.loop-i.invariant.1
+move_slot-requires c = let k = c in
+    one-beside k.args.s.now k.args.t.now k.args.w k.args.v k.args.n (λ i. search rules) k.requires _ _ c.loop-k-test.true k.loop-k.invariant
 
-pub loop-i-preserved : goal.loop-i-preserved
-loop-i-preserved c = (search rules, one_more c.args.s.now c.args.t.now c.args.w c.args.v c.args.n (λ i. search rules) c.requires _ _ _ c.loop-i-test.true c.loop-i.invariant.1 c.move_slot.ensures)
+pub loop-k-preserved : goal.loop-k-preserved
+loop-k-preserved c = let k = c in
+    one_more k.args.s.now k.args.t.now k.args.w k.args.v k.args.n (λ i. search rules) k.requires _ _ _ c.loop-k-test.true k.loop-k.invariant c.move_slot.ensures
 
 pub returns : goal.returns
-returns c = all_done c.args.s.now c.args.t.now c.args.w c.args.v c.args.n (λ i. search rules) c.requires _ _ c.loop-i.invariant.0 (omega (arith, c.loop-i-test.false)) c.loop-i.invariant.1
+returns c = let k = c in
+    all_done k.args.s.now k.args.t.now k.args.w k.args.v k.args.n (λ i. search rules) k.requires _ _ c.loop-k.auto.k-end (omega (arith, c.loop-k-test.false)) c.loop-k.invariant
