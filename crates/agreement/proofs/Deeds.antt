@@ -16,7 +16,7 @@ use Rattle.rules.specs.declared.Frame.{Frame}
 use Rattle.rules.specs.declared.Frames.{Frames}
 use Rattle.rules.specs.declared.Frames.TheVariants.{None}
 use Rattle.rules.specs.Book.{Step}
-use Rattle.answers.specs.Answers.{Told, said}
+use Rattle.answers.specs.Answers.{Report, said}
 use Rattle.calls.specs.Calls.{kill_step}
 use Rattle.call_laws.proofs.Good.{high-low}
 use Rattle.agreement.specs.Calls.{Call, kill, receive, left, done, table_after}
@@ -34,7 +34,7 @@ pub data From (b : List ℕ) : Call → Type 0 where
   from : {a : List ℕ} {time : ℕ} {frame fresh expected : List ℕ} {verdict : ℕ} → same_address a b ≡ true → From b (receive a time frame fresh expected verdict)
 
 -- the call c, done or not, with the answer r, is the act e to the address b, whose record was p and is q; u is the table left
-pub record FormsHere (gs : List ℕ) (c : Call) (d : Bool) (r : Told) (b : List ℕ) (q : Peer) (x y : Commit) : Type 0 where
+pub record FormsHere (gs : List ℕ) (c : Call) (d : Bool) (r : Report) (b : List ℕ) (q : Peer) (x y : Commit) : Type 0 where
   pub done : d ≡ true
   pub to : same_address r.address b ≡ true
   pub came : From b c
@@ -44,13 +44,13 @@ pub record FormsHere (gs : List ℕ) (c : Call) (d : Bool) (r : Told) (b : List 
   pub own : x ≡ own_commit q
   pub peer : y ≡ peer_commit q
 
-pub record UsesHere (gs : List ℕ) (c : Call) (d : Bool) (r : Told) (b : List ℕ) (x : Commit) : Type 0 where
+pub record UsesHere (gs : List ℕ) (c : Call) (d : Bool) (r : Report) (b : List ℕ) (x : Commit) : Type 0 where
   pub done : d ≡ true
   pub to : same_address r.address b ≡ true
   pub afresh : uses_afresh r ≡ true
   pub used : used_afresh gs c r ≡ x
 
-pub record AcceptsHere (gs : List ℕ) (c : Call) (d : Bool) (r : Told) (b : List ℕ) (p : Peer) (x y : Commit) : Type 0 where
+pub record AcceptsHere (gs : List ℕ) (c : Call) (d : Bool) (r : Report) (b : List ℕ) (p : Peer) (x y : Commit) : Type 0 where
   pub done : d ≡ true
   pub came : From b c
   pub right : Verified gs c
@@ -59,7 +59,7 @@ pub record AcceptsHere (gs : List ℕ) (c : Call) (d : Bool) (r : Told) (b : Lis
   pub own : x ≡ own_commit p
   pub peer : y ≡ peer_commit p
 
-pub record Deed (gs : List ℕ) (c : Call) (d : Bool) (r : Told) (u b : List ℕ) (p q : Peer) (e : Act) : Type 0 where
+pub record Deed (gs : List ℕ) (c : Call) (d : Bool) (r : Report) (u b : List ℕ) (p q : Peer) (e : Act) : Type 0 where
   pub moves : act e (view p) ≡ view q
   pub may : Guard e (view p)
   pub uses : (x : Commit) → Uses x e → UsesHere gs c d r b x
@@ -70,7 +70,7 @@ pub record Deed (gs : List ℕ) (c : Call) (d : Bool) (r : Told) (u b : List ℕ
   pub confirms : d ≡ true → same_address r.address b ≡ true → (x : Frame) → Among x r.frames → is_confirm x ≡ true → Over q x e
 
 -- the call is refused, or about another address
-apart-deed : (gs : List ℕ) (c : Call) (d : Bool) (r : Told) (u b : List ℕ) (p : Peer) → (d ≡ true → same_address r.address b ≡ true → ⊥) → Deed gs c d r u b p p idle
+apart-deed : (gs : List ℕ) (c : Call) (d : Bool) (r : Report) (u b : List ℕ) (p : Peer) → (d ≡ true → same_address r.address b ≡ true → ⊥) → Deed gs c d r u b p p idle
 apart-deed gs c d r u b p n = record {
   moves = refl;
   may = tt;
@@ -89,7 +89,7 @@ unfolding view view_run view_link no_peer no_run no_link
 view-none = refl
 
 -- a kill or a set up
-ended-deed : (gs : List ℕ) (c : Call) (d : Bool) (r : Told) (u b : List ℕ) (p q : Peer) → q ≡ no_peer → r.frames ≡ None → Deed gs c d r u b p q end_both
+ended-deed : (gs : List ℕ) (c : Call) (d : Bool) (r : Report) (u b : List ℕ) (p q : Peer) → q ≡ no_peer → r.frames ≡ None → Deed gs c d r u b p q end_both
 ended-deed gs c d r u b p q e f = record {
   moves = sym (ap view e ∙ view-none);
   may = tt;
@@ -151,17 +151,17 @@ shows-counted limit p s S = run-counted S.run
 
 -- ---- every call
 
-deed-at : {gs : List ℕ} {c : Call} {d f : Bool} {r v : Told} {u b : List ℕ} {p q x y : Peer} {e : Act} → d ≡ f → r ≡ v → x ≡ p → y ≡ q
+deed-at : {gs : List ℕ} {c : Call} {d f : Bool} {r v : Report} {u b : List ℕ} {p q x y : Peer} {e : Act} → d ≡ f → r ≡ v → x ≡ p → y ≡ q
     → Deed gs c f v u b p q e → Deed gs c d r u b x y e
 deed-at {gs} {c} {d} {f} {r} {v} {u} {b} {p} {q} {x} {y} {e} i j k l D =
-    subst (λ (z : Bool). Deed gs c z r u b x y e) (sym i) (subst (λ (z : Told). Deed gs c f z u b x y e) (sym j)
+    subst (λ (z : Bool). Deed gs c z r u b x y e) (sym i) (subst (λ (z : Report). Deed gs c f z u b x y e) (sym j)
     (subst (λ (z : Peer). Deed gs c f v u b z y e) (sym k) (subst (λ (z : Peer). Deed gs c f v u b p z e) (sym l) D)))
 
-said-to : (r : Told) (o : Step) (a : List ℕ) → r ≡ said o a → r.address ≡ a
+said-to : (r : Report) (o : Step) (a : List ℕ) → r ≡ said o a → r.address ≡ a
 unfolding said
 said-to r o a e = rw e
 
-pub kill-frames : (r : Told) (a : List ℕ) → r ≡ said kill_step a → r.frames ≡ None
+pub kill-frames : (r : Report) (a : List ℕ) → r ≡ said kill_step a → r.frames ≡ None
 unfolding said kill_step
 kill-frames r a e = rw e
 

@@ -42,7 +42,7 @@ use Rattle.causes.specs.declared.Refusal.{Refusal}
 use Rattle.causes.specs.declared.Refusal.TheVariants as why
 use Rattle.answers.specs.Outcome.{Outcome}
 use Rattle.answers.specs.Outcome as outcome
-use Rattle.answers.specs.Answers.{Told, Left, ends, turned, finishes, refuse, refused, quiet, none_due, said}
+use Rattle.answers.specs.Answers.{Report, Left, ends, turned, finishes, refuse, refused, quiet, none_due, said}
 use Rattle.answers.proofs.Laws.{Entered, old, new, unchanged-ends}
 use Rattle.answers.proofs.Theorems.{Good}
 use Rattle.answers.proofs.Ending.{Finished, Turned, turn-ends, finish-ends}
@@ -96,8 +96,7 @@ admit-start T g fresh f e =
 start-admits : (E : Result (Option ℕ) Refusal) (t fresh : List ℕ) (f : Option ℕ) → start_turn E t fresh ≡ Ok f
     → (fresh_ok (width_in (decode_table t).header) (groups_in t) fresh ≡ true) × (eqb (look_by (decode_table t) f).run.state 0 ≡ true)
 unfolding start_turn
-start-admits (Err why.Unsound) t fresh f e = clashed e
-start-admits (Err why.Address) t fresh f e = clashed e
+start-admits (Err r) t fresh f e = clashed e
 start-admits (Ok None) t fresh f e = admit-start (decode_table t) None fresh f e
 start-admits (Ok (Some k)) t fresh f e = admit-start (decode_table t) (Some k) fresh f e
 
@@ -113,8 +112,7 @@ admit-frame b x y z g f e =
 frame-admits : (E : Result (Option ℕ) Refusal) (t frame fresh expected : List ℕ) (verdict : ℕ) (f : Option ℕ) → frame_turn E t frame fresh expected verdict ≡ Ok f
     → (fresh_ok (width_in (decode_table t).header) (groups_in t) fresh ≡ true) × (eqb (view (groups_in t) frame).sequence 0 ≡ false)
 unfolding frame_turn admit_frame
-frame-admits (Err why.Unsound) t frame fresh expected verdict f e = clashed e
-frame-admits (Err why.Address) t frame fresh expected verdict f e = clashed e
+frame-admits (Err r) t frame fresh expected verdict f e = clashed e
 frame-admits (Ok None) t frame fresh expected verdict f e =
     admit-frame (fresh_ok (width_in (decode_table t).header) (groups_in t) fresh) (not (eqb (length expected) 32)) (ltb 1 verdict) ((view (groups_in t) frame).sequence is 0) None f e
 frame-admits (Ok (Some k)) t frame fresh expected verdict f e =
@@ -227,7 +225,7 @@ pub data Told : List ℕ → Call → Type 0 where
   a_clock : {a : List ℕ} {time : ℕ} → Told a (expire time)
 
 -- a step o was made at the address a of the table t, which becomes u; r is the answer
-pub record Made (t u : List ℕ) (a : List ℕ) (o : Step) (r : Told) : Type 0 where
+pub record Made (t u : List ℕ) (a : List ℕ) (o : Step) (r : Report) : Type 0 where
   pub answer : r ≡ said o a
   pub was : sound t ≡ true
   pub sound : sound u ≡ true
@@ -277,7 +275,7 @@ made_of t a o l s F = record {
   elsewhere = F.elsewhere;
 }
 
-said-done : (o : Step) (a : List ℕ) (r : Told) → r ≡ said o a → is_done r.outcome ≡ true
+said-done : (o : Step) (a : List ℕ) (r : Report) → r ≡ said o a → is_done r.outcome ≡ true
 unfolding said
 said-done o a r e = rw e
 

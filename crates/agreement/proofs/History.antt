@@ -19,7 +19,7 @@ use Rattle.record.specs.Layout.{record_size, no_peer, limit_of}
 use Rattle.record.specs.SettingsOctets.{settings_of}
 use Rattle.table.specs.Table.{Table, width_of, decode_table, peers_of, slot, slots, in_use, belongs, finds, look, look_by, sound}
 use Rattle.rules.specs.Book.{Step}
-use Rattle.answers.specs.Answers.{Told, said}
+use Rattle.answers.specs.Answers.{Report, said}
 use Rattle.calls.specs.Calls.{kill_step}
 use Rattle.call_laws.proofs.Good.{limit-of}
 use Rattle.agreement.specs.Calls.{Call, initialize, kill, Entry, AllHanded, none, more, last, sooner, left, done, is_initialize, table_after, mine, table_of}
@@ -56,7 +56,7 @@ told-by t s a_start = refl
 told-by t s a_frame = refl
 told-by t s a_clock = refl
 
-said-address : (r : Told) (o : Step) (a : List ℕ) → r ≡ said o a → r.address ≡ a
+said-address : (r : Report) (o : Step) (a : List ℕ) → r ≡ said o a → r.address ≡ a
 unfolding said
 said-address r o a e = rw e
 
@@ -114,13 +114,13 @@ module _ (t : List ℕ) where
           let p = look-same-address (decode_table t) a b e in
           let g = subst (λ (q : Peer). Shows (limit_in t) q s) p h in
           shows-at M.limit (look-same-address _ a b e ∙ M.here)
-          (story-about t c b s (step-about t a b o k d M.answer ∙ e) ∙ told-by t s k ∙ ap (λ (r : Told). answered (groups_in t) (limit_in t) c r s) M.answer)
+          (story-about t c b s (step-about t a b o k d M.answer ∙ e) ∙ told-by t s k ∙ ap (λ (r : Report). answered (groups_in t) (limit_in t) c r s) M.answer)
           (shows_kept (groups_in t) (limit_in t) c a (look (decode_table t) a) o s (D (shows-whole _ _ s g) (shows-state _ _ s g)) g)
       go false e = shows-at M.limit (M.elsewhere b e) (story-apart t c b s (step-about t a b o k d M.answer ∙ e)) h
 
 -- a run that begins has the limit of the call's table, and every other keeps its own
 module _ (P : ℕ → Type 0) where
-  answered-limited : (gs : List ℕ) (limit : ℕ) (c : Call) (r : Told) (s : Story) → P limit → Limited P s.runs → Limited P (answered gs limit c r s).runs
+  answered-limited : (gs : List ℕ) (limit : ℕ) (c : Call) (r : Report) (s : Story) → P limit → Limited P s.runs → Limited P (answered gs limit c r s).runs
   unfolding told
   answered-limited gs limit c r s e h =
       either (Limited P) (is_start c || (forms_pair c r && not s.running)) (λ b. run {r = begun limit} e h)

@@ -6,7 +6,7 @@ use Rattle.record.specs.Layout.{form_of}
 use Rattle.good_links.specs.GoodLinks.{fills}
 use Rattle.answers.specs.Outcome.{Outcome}
 use Rattle.answers.specs.Outcome as outcome
-use Rattle.answers.specs.Answers.{Told, Left, none_due}
+use Rattle.answers.specs.Answers.{Report, Left, none_due}
 use Rattle.calls.specs.Calls.{initializes_from, initiates, kills, receives, expires}
 use Rattle.writer.specs.Writer.{LeftOut, writes_parts, writes_record}
 use Rattle.moves.specs.declared.Direction.{Direction}
@@ -129,7 +129,7 @@ table_of [] X = []
 table_of (e ∷ h) X = mine e.side X (table_after (table_of h X) e.call) (table_of h X)
 
 -- what the call e answers after the calls h, and whether it is a step
-abbrev pub answer_of : List Entry → Entry → Told
+abbrev pub answer_of : List Entry → Entry → Report
 answer_of h e = (left (table_of h e.side) e.call).answer
 
 abbrev pub stepped : List Entry → Entry → Bool

@@ -15,7 +15,7 @@ use Rattle.rules.specs.declared.Event.{Event}
 use Rattle.rules.specs.declared.Event.TheVariants as event
 use Rattle.rules.specs.Book.{◌is◌, ◌isnt◌}
 use Rattle.message.specs.View.{message}
-use Rattle.answers.specs.Answers.{Told}
+use Rattle.answers.specs.Answers.{Report}
 use Rattle.agreement.specs.Calls.{Call, initialize, initiate, kill, receive, expire, write, fill, move, Entry, left, done, is_initialize, mine, table_of}
 
 -- a pair, as one end has it
@@ -133,14 +133,14 @@ is_abandoned event.Abandoned = true
 is_abandoned event.Ended = false
 
 -- "The commit used afresh is the stock's for the stock group in the answer, if that is not 0"
-abbrev pub uses_afresh : Told → Bool
+abbrev pub uses_afresh : Report → Bool
 uses_afresh r = r.afresh isnt 0
 
-abbrev pub used_afresh : List ℕ → Call → Told → Commit
+abbrev pub used_afresh : List ℕ → Call → Report → Commit
 used_afresh groups c r = record { group = r.afresh; octets = fresh_for groups (stock_in groups c) r.afresh }
 
 -- "A frame call that answers a Confirm with counter 1 forms a pair"
-abbrev pub forms_pair : Call → Told → Bool
+abbrev pub forms_pair : Call → Report → Bool
 forms_pair c r = some_frame is_first_confirm r.frames && is_frame c
 
 -- "Event 1 makes the pair last formed the finished link, until event 3, a kill, a set up or another event 1. Its mark is clear until a pair is
@@ -197,7 +197,7 @@ module _ (limit : ℕ) (starts afresh : Bool) (used : Commit) (forms : Bool) (th
       record { fresh = fresh_after s; pair = pair_after s; running = running_after s; stands = stands_after s; link = link_after s; runs = runs_after s }
 
 -- the call c with the answer r
-abbrev pub answered : List ℕ → ℕ → Call → Told → Story → Story
+abbrev pub answered : List ℕ → ℕ → Call → Report → Story → Story
 answered groups limit c r s =
     told limit (is_start c) (uses_afresh r) (used_afresh groups c r) (forms_pair c r) (heard groups c) r.event (sends r.frames) s
 

@@ -18,7 +18,7 @@ use Rattle.table.specs.Table.{Table, entry, sound, encode_table, decode_table, w
 use Rattle.table.proofs.Laws.{entry-found, found_below, free-below-law, sound-whole, sound-peer, peers-held, ready}
 use Rattle.table.proofs.Fit.{fit-decoded, fit-slot}
 use Rattle.table.proofs.Kept.{recounted-again}
-use Rattle.answers.specs.Answers.{Told, Leaves, ends, turned, refuse, refused, said, answered, seating, finish_at, finishes, Seated}
+use Rattle.answers.specs.Answers.{Report, Leaves, ends, turned, refuse, refused, said, answered, seating, finish_at, finishes, Seated}
 use Rattle.causes.specs.declared.Refusal.{Refusal}
 use Rattle.causes.specs.declared.Refusal.TheVariants as why
 
@@ -57,15 +57,15 @@ free-record t k b s e =
 -- ---- the end of every call
 
 -- NOTHING CHANGED, nothing changes: the end leaves a sound table as it was
-pub unchanged-ends : (r : Told) (t : List ℕ) → Bytes t → sound t ≡ true → (ends r (decode_table t)).table ≡ t
+pub unchanged-ends : (r : Report) (t : List ℕ) → Bytes t → sound t ≡ true → (ends r (decode_table t)).table ≡ t
 unfolding ends
 unchanged-ends r t b s = recounted-again t b s
 
-answered-said : (s : Step) (x : Said) (a : List ℕ) (r : Told) → x ≡ saying s → r ≡ answered x a → r ≡ said s a
+answered-said : (s : Step) (x : Said) (a : List ℕ) (r : Report) → x ≡ saying s → r ≡ answered x a → r ≡ said s a
 unfolding said
 answered-said s x a r e q = q ∙ ap (λ (y : Said). answered y a) e
 
-module _ (t a : List ℕ) (f : Option ℕ) (s : Step) (r : Told) where
+module _ (t a : List ℕ) (f : Option ℕ) (s : Step) (r : Report) where
   finished-in : (g : Option ℕ) (v : List ℕ) → s.refused ≡ false → seating (decode_table t) f ≡ g → Leaves r v (finish_at g t s a) → Leaves r v (finishes t f s a)
   unfolding finishes
   finished-in g v n q l =
@@ -92,7 +92,7 @@ module _ (t a : List ℕ) (f : Option ℕ) (s : Step) (r : Told) where
 
 -- ---- every call: a refusal, or a step finished
 
-module _ (w : Result (Option ℕ) Refusal) (g : Option ℕ → Step) (t a : List ℕ) (e : Result (Option ℕ) Refusal) (p : e ≡ w) (r : Told) where
+module _ (w : Result (Option ℕ) Refusal) (g : Option ℕ → Step) (t a : List ℕ) (e : Result (Option ℕ) Refusal) (p : e ≡ w) (r : Report) where
   pub turned-refused : (c : Refusal) → e ≡ Err c → r ≡ refused c → Leaves r t (turned w g t a)
   unfolding turned
   turned-refused c q z = subst (λ (x : Result (Option ℕ) Refusal). Leaves r t (turned x g t a)) (sym q ∙ p) (record { answer = z; table = refl })

@@ -17,7 +17,7 @@ use Rattle.answers.specs.declared.Answer.{Answer}
 
 -- ---- what a caller is told of a call: how it came out, and what it answers, zero where that is nothing
 
-pub record Told : Type 0 where
+pub record Report : Type 0 where
   pub outcome : Outcome
   pub event : Event
   pub frames : Frames
@@ -31,22 +31,22 @@ returned outcome.NoneDue = 0
 returned (outcome.Refused c) = number c
 
 -- "All return the number and no frames."
-unfoldable pub refused : Refusal → Told
+unfoldable pub refused : Refusal → Report
 refused c = record { outcome = outcome.Refused c; event = event.None; frames = frames.None; afresh = 0; address = replicate 6 0 }
 
 -- "or says none is due, the rest of its answer zero"
-unfoldable pub none_due : Told
+unfoldable pub none_due : Report
 none_due = record { outcome = outcome.NoneDue; event = event.None; frames = frames.None; afresh = 0; address = replicate 6 0 }
 
 -- "A step answers: host event; frames to send, in order; stock group used or 0; the address."
-abbrev pub answered : Said → List ℕ → Told
+abbrev pub answered : Said → List ℕ → Report
 answered s address = record { outcome = outcome.Done; event = s.event; frames = s.frames; afresh = s.afresh; address = address }
 
-unfoldable pub said : Step → List ℕ → Told
+unfoldable pub said : Step → List ℕ → Report
 said s address = answered (saying s) address
 
 -- "Set up and kill answer event 0, no frames, group 0 and the address given."
-unfoldable pub quiet : List ℕ → Told
+unfoldable pub quiet : List ℕ → Report
 quiet address = record { outcome = outcome.Done; event = event.None; frames = frames.None; afresh = 0; address = address }
 
 -- ---- the same as a value of the code: a refusal, none due, or an answer
@@ -59,15 +59,15 @@ abbrev pub quiet_answer : List ℕ → Answer
 quiet_answer address = record { event = event.None; frames = frames.None; afresh = 0; address = address }
 
 -- what a result tells
-abbrev pub telling : Answer → Told
+abbrev pub telling : Answer → Report
 telling a = record { outcome = outcome.Done; event = a.event; frames = a.frames; afresh = a.afresh; address = a.address }
 
-abbrev pub told : Result Answer Refusal → Told
+abbrev pub told : Result Answer Refusal → Report
 told (Ok a) = telling a
 told (Err c) = refused c
 
 -- of the clock, which may find none due
-abbrev pub told_if_due : Result (Option Answer) Refusal → Told
+abbrev pub told_if_due : Result (Option Answer) Refusal → Report
 told_if_due (Ok (Some a)) = telling a
 told_if_due (Ok None) = none_due
 told_if_due (Err c) = refused c
@@ -75,11 +75,11 @@ told_if_due (Err c) = refused c
 -- ---- what a call answers and the table that it leaves
 
 pub record Left : Type 0 where
-  pub answer : Told
+  pub answer : Report
   pub table : List ℕ
 
 -- a contract: the answer and the table at exit are those
-pub record Leaves (r : Told) (u : List ℕ) (l : Left) : Type 0 where
+pub record Leaves (r : Report) (u : List ℕ) (l : Left) : Type 0 where
   pub answer : r ≡ l.answer
   pub table : u ≡ l.table
 
@@ -95,7 +95,7 @@ seating T None = free_slot T
 
 -- THE END of every call that is not refused: the counts are made true. Of a sound table in which nothing was changed they are, and it stays octet for octet
 -- (`unchanged-ends`).
-unfoldable pub ends : Told → Table → Left
+unfoldable pub ends : Report → Table → Left
 ends answer T = record { answer = answer; table = encode_table (recounted T) }
 
 -- the end of a step: its record is stored in its slot; without a slot nothing is

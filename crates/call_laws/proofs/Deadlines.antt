@@ -22,7 +22,7 @@ use Rattle.rules.proofs.Ladders.{start-asked, frame-asked, clock-asked}
 use Rattle.rule_laws.specs.Deadlines.{Still, Ends, run_ends, link_ends}
 use Rattle.rule_laws.proofs.Deadlines.{StepMoves, still, has_sent, has_ended, act-moves}
 use Rattle.rule_laws.proofs.Keeps.{Kept, parts}
-use Rattle.answers.specs.Answers.{Told, Left, turned, said}
+use Rattle.answers.specs.Answers.{Report, Left, turned, said}
 use Rattle.answers.proofs.Ending.{Finished, Turned, denied, done, turn-ends}
 use Rattle.calls.specs.Calls.{start_turn, start_step, initiates, kill_turn, kill_step, kills, frame_turn, frame_step, receives, due_slot, clock_step, expires}
 use Rattle.call_laws.specs.Isolation.{PeerCall, initiate, kill, receive, expire, Handed, an_initiate, a_kill, a_receive, an_expire, left}
@@ -45,10 +45,10 @@ module _ (t x : List ℕ) (k : Bool) (l : Left) (s : Step) (F : Finished t x s l
   moves-here : StepMoves k (look (decode_table t) x) s → (StillAt t x l → ⊥) → Moves t x k l
   unfolding said
   moves-here (still q) d = absurd (d (subst (Still (look (decode_table t) x)) (sym F.here) q))
-  moves-here (has_sent q) d = sends (ap (λ (r : Told). r.address) F.answer) (λ e. q (sym (ap (λ (r : Told). r.frames) F.answer) ∙ e))
+  moves-here (has_sent q) d = sends (ap (λ (r : Report). r.address) F.answer) (λ e. q (sym (ap (λ (r : Report). r.frames) F.answer) ∙ e))
   moves-here (has_ended q u) d =
-      ends (ap (λ (r : Told). r.address) F.answer) (subst (Ends (look (decode_table t) x)) (sym F.here) q)
-      (λ e. u (sym (ap (λ (r : Told). r.event) F.answer) ∙ e))
+      ends (ap (λ (r : Report). r.address) F.answer) (subst (Ends (look (decode_table t) x)) (sym F.here) q)
+      (λ e. u (sym (ap (λ (r : Report). r.event) F.answer) ∙ e))
 
   -- of any address a
   step-moves : (a : List ℕ) → length x ≡ 6 → Bytes x → length a ≡ 6 → Bytes a → StepMoves k (look (decode_table t) x) s → (StillAt t a l → ⊥) → Moves t a k l

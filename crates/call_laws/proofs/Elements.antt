@@ -25,8 +25,7 @@ module _ (t frame other : List ℕ) (v : view (groups_of (decode_table t).header
 
   same_turn : (E : Result (Option ℕ) Refusal) (fresh expected : List ℕ) (verdict : ℕ) → frame_turn E t frame fresh expected verdict ≡ frame_turn E t other fresh expected verdict
   unfolding frame_turn
-  same_turn (Err why.Unsound) fresh expected verdict = refl
-  same_turn (Err why.Address) fresh expected verdict = refl
+  same_turn (Err r) fresh expected verdict = refl
   same_turn (Ok None) fresh expected verdict = same-admitted _ fresh expected verdict
   same_turn (Ok (Some k)) fresh expected verdict = same-admitted _ fresh expected verdict
 

@@ -11,7 +11,7 @@ use Rattle.octets.specs.Octets.{Bytes}
 use Rattle.record.specs.declared.Settings.{Settings}
 use Rattle.soundness.specs.Soundness.{usable}
 use Rattle.record.specs.Layout.{form_of}
-use Rattle.table.specs.Table.{Table, decode_table, encode_table, slot, finds, look_by, look, sound, entry, found_entry}
+use Rattle.table.specs.Table.{Table, decode_table, encode_table, slot, finds, look_by, look, sound, entry}
 use Rattle.table.proofs.Laws.{entry-found}
 use Rattle.initial.specs.Initial.{slots_for, initial_ok, initial_table, initial}
 use Rattle.initial.proofs.Initial.{initial-ok-form, initial-served, initial-recounted}
@@ -21,7 +21,7 @@ use Rattle.causes.specs.declared.Refusal.{Refusal}
 use Rattle.causes.specs.declared.Refusal.TheVariants as why
 use Rattle.answers.specs.Outcome.{Outcome}
 use Rattle.answers.specs.Outcome as outcome
-use Rattle.answers.specs.Answers.{Told, Left, ends, seating, finish_at, finishes, turned, refuse, refused, said, quiet}
+use Rattle.answers.specs.Answers.{Report, Left, ends, seating, finish_at, finishes, turned, refuse, refused, said, quiet}
 use Rattle.answers.proofs.Laws.{Entered, old, new}
 use Rattle.answers.proofs.Ending.{Finished, finish-ends}
 use Rattle.calls.specs.Calls.{initializes, due_slot, clock_step, expires_by, expires}
@@ -36,11 +36,11 @@ pub data Came (t a : List ℕ) : Result (Option ℕ) Refusal → Type 0 where
   has : {k : ℕ} → sound t ≡ true → usable (decode_table t).header.own a ≡ true → finds (decode_table t) a ≡ Some k → Came t a (Ok (Some k))
 
 pub came : (t a : List ℕ) → Came t a (entry t a)
-unfolding entry found_entry
+unfolding entry
 came t a = go (sound t) (usable (decode_table t).header.own a) (finds (decode_table t) a) refl refl refl
   where
     go : (s u : Bool) (f : Option ℕ) → sound t ≡ s → usable (decode_table t).header.own a ≡ u → finds (decode_table t) a ≡ f
-        → Came t a (if not s then (Err why.Unsound) else if not u then (Err why.Address) else found_entry f)
+        → Came t a (if not s then Err why.Unsound else if not u then Err why.Address else Ok f)
     go false u f p q r = unsound p
     go true false f p q r = unusable p q
     go true true (Some k) p q r = has p q r
@@ -68,7 +68,7 @@ finish-answer t f s a = go s.refused (seating (decode_table t) f)
 
 pub finish-outcome : (t : List ℕ) (f : Option ℕ) (s : Step) (a : List ℕ) → (finishes t f s a).answer.outcome ≡ (if s.refused then outcome.Refused why.Full else outcome.Done)
 unfolding refused said
-finish-outcome t f s a = ap (λ (r : Told). r.outcome) (finish-answer t f s a) ∙ go s.refused
+finish-outcome t f s a = ap (λ (r : Report). r.outcome) (finish-answer t f s a) ∙ go s.refused
   where
     go : (b : Bool) → (if b then refused why.Full else said s a).outcome ≡ (if b then outcome.Refused why.Full else outcome.Done)
     go true = refl
@@ -92,7 +92,7 @@ module _ (g : Option ℕ → Step) (t a : List ℕ) where
 -- a step that is done is not a refusal
 pub said-not : (s : Step) (a : List ℕ) (c : Refusal) → said s a ≡ refused c → ⊥
 unfolding said refused
-said-not s a c e = let q : outcome.Done ≡ outcome.Refused c = ap (λ (r : Told). r.outcome) e in let z : ◌≡◌ {A = ℕ} 0 1 = cc in omega arith
+said-not s a c e = let q : outcome.Done ≡ outcome.Refused c = ap (λ (r : Report). r.outcome) e in let z : ◌≡◌ {A = ℕ} 0 1 = cc in omega arith
 
 -- ---- set up leaves the fresh table, whose counts are true already, or the buffer as it was
 

@@ -24,7 +24,7 @@ use Rattle.record.proofs.Laws.{form-width, form-groups}
 use Rattle.record.specs.Layout.{form_in, width_in, groups_of, no_peer, decode_header, header_of, limit_of}
 use Rattle.soundness.specs.Soundness.{usable, high_sync, commit_ok}
 use Rattle.soundness.proofs.Laws.{Groups, SettingsForm, header-form, settings-form, header-limit, header-high, header-groups, header-width, header-count, listed-known, groups-length}
-use Rattle.table.specs.Table.{Table, decode_table, slot, slots, belongs, finds, look_by, look, sound, entry, found_entry}
+use Rattle.table.specs.Table.{Table, decode_table, slot, slots, belongs, finds, look_by, look, sound, entry}
 use Rattle.table.proofs.Laws.{entry-found, found_below, sound-header, sound-peer, sound-whole, peers-held, none-holds}
 use Rattle.table.proofs.Fit.{fit-slot, fit-decoded}
 use Rattle.table.proofs.Kept.{sound-form, found-only}
@@ -257,7 +257,7 @@ view-heard gs frame b =
 
 -- ---- who goes on
 
-pub go_same : {f g : Option ℕ} → Ok f ≡ Ok g → f ≡ g
+pub go_same : {f g : Option ℕ} → ◌≡◌ {A = Result (Option ℕ) Refusal} (Ok f) (Ok g) → f ≡ g
 go_same e = cc
 
 -- a refusal's branch was not taken
@@ -287,23 +287,20 @@ module _ (t a : List ℕ) where
   pub start-entered : (fresh : List ℕ) (E : Result (Option ℕ) Refusal) (f : Option ℕ) → entry t a ≡ E → start_turn E t fresh ≡ Ok f
       → Entered t a f × (fresh_ok (width_in (decode_table t).header) (groups_in t) fresh ≡ true) × ((look_by (decode_table t) f).run.state ≡ 0)
   unfolding start_turn
-  start-entered fresh (Err why.Unsound) f q e = clashed e
-  start-entered fresh (Err why.Address) f q e = clashed e
+  start-entered fresh (Err r) f q e = clashed e
   start-entered fresh (Ok None) f q e = let w = admit-start (decode_table t) None fresh f e in (subst (Entered t a) w.0 (new q), w.1, w.2)
   start-entered fresh (Ok (Some k)) f q e = let w = admit-start (decode_table t) (Some k) fresh f e in (subst (Entered t a) w.0 (old q), w.1, w.2)
 
   pub kill-entered : (E : Result (Option ℕ) Refusal) (f : Option ℕ) → entry t a ≡ E → kill_turn E ≡ Ok f → Entered t a f
   unfolding kill_turn
-  kill-entered (Err why.Unsound) f q e = clashed e
-  kill-entered (Err why.Address) f q e = clashed e
+  kill-entered (Err r) f q e = clashed e
   kill-entered (Ok None) f q e = clashed e
   kill-entered (Ok (Some k)) f q e = subst (Entered t a) (go_same e) (old q)
 
   pub frame-entered : (frame fresh expected : List ℕ) (verdict : ℕ) (E : Result (Option ℕ) Refusal) (f : Option ℕ) → entry t a ≡ E → frame_turn E t frame fresh expected verdict ≡ Ok f
       → Entered t a f × (fresh_ok (width_in (decode_table t).header) (groups_in t) fresh ≡ true)
   unfolding frame_turn
-  frame-entered frame fresh expected verdict (Err why.Unsound) f q e = clashed e
-  frame-entered frame fresh expected verdict (Err why.Address) f q e = clashed e
+  frame-entered frame fresh expected verdict (Err r) f q e = clashed e
   frame-entered frame fresh expected verdict (Ok None) f q e =
       let w = admit-frame (decode_table t) None frame fresh expected verdict f e in (subst (Entered t a) w.0 (new q), w.1)
   frame-entered frame fresh expected verdict (Ok (Some k)) f q e =
@@ -388,7 +385,7 @@ module _ (t : List ℕ) (time k : ℕ) (b : Bytes t) (s : sound t ≡ true) (e :
   due-place = place_of (own_in t) (groups_in t) (high_in t) _ _ due-kept due-used
 
   pub due-entry : entry t (slot (decode_table t) k).address ≡ Ok (Some k)
-  unfolding entry found_entry
+  unfolding entry
   due-entry = let q = due-found (finds (decode_table t) (slot (decode_table t) k).address) refl in rw (s, due-place.usable, q)
 
   pub expire_address : (length (slot (decode_table t) k).address ≡ 6) × Bytes (slot (decode_table t) k).address

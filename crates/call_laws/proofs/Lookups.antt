@@ -18,7 +18,7 @@ use Rattle.record.specs.declared.Peer.{Peer}
 use Rattle.record.specs.Layout.{decode_peer, record_size, record_at, no_run, no_link, no_peer}
 use Rattle.record.proofs.Laws.{FitPeer, shape-peer}
 use Rattle.soundness.proofs.Laws.{peer-unused, peer-in-use}
-use Rattle.table.specs.Table.{Table, width_of, decode_table, slots, slot, in_use, belongs, finds, look_by, look, sound, entry, found_entry}
+use Rattle.table.specs.Table.{Table, width_of, decode_table, slots, slot, in_use, belongs, finds, look_by, look, sound, entry}
 use Rattle.table.proofs.Laws.{sound-whole, sound-peer, peers-held, found_below, ready}
 use Rattle.table.proofs.Octets.{record_in, slot_at, after-header}
 use Rattle.table.proofs.Fit.{fit-decoded, fit-slot}
@@ -53,14 +53,14 @@ pub next-deadline-exact : (t : List ℕ) (time : ℕ) → Exact (asked_returned 
 next-deadline-exact t time = exact asked_returned Err _ (clock_causes t) _ (λ c. refl) refl (clock-rises t) (next-deadline-refuses t time)
 
 find-refuses-by : (t a : List ℕ) (E : Result (Option ℕ) Refusal) → Came t a E
-    → offset_by E (width_of t) ≡ first_cause Err (find_causes t a) (offset_by (found_entry (finds (decode_table t) a)) (width_of t))
-unfolding offset_by first_cause find_causes found_entry
+    → offset_by E (width_of t) ≡ first_cause Err (find_causes t a) (offset_by (Ok (finds (decode_table t) a)) (width_of t))
+unfolding offset_by first_cause find_causes
 find-refuses-by t a E (unsound s) = rw s
 find-refuses-by t a E (unusable s u) = rw (s, u)
 find-refuses-by t a E (lacks s u f) = rw (s, u, f)
 find-refuses-by t a E (has s u f) = rw (s, u, f)
 
-pub find-refuses : (t a : List ℕ) → asks_offset t a ≡ first_cause Err (find_causes t a) (offset_by (found_entry (finds (decode_table t) a)) (width_of t))
+pub find-refuses : (t a : List ℕ) → asks_offset t a ≡ first_cause Err (find_causes t a) (offset_by (Ok (finds (decode_table t) a)) (width_of t))
 unfolding asks_offset
 find-refuses t a = find-refuses-by t a (entry t a) (came t a)
 
@@ -68,8 +68,8 @@ find-rises : (t a : List ℕ) → rising 0 (find_causes t a) ≡ true
 unfolding rising find_causes
 find-rises t a = refl
 
-offset-answers : (f : Option ℕ) (W : ℕ) → asked_returned (offset_by (found_entry f) W) ≡ 0
-unfolding offset_by found_entry
+offset-answers : (f : Option ℕ) (W : ℕ) → asked_returned (offset_by (Ok f) W) ≡ 0
+unfolding offset_by
 offset-answers (Some k) W = refl
 offset-answers None W = refl
 

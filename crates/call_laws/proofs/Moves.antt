@@ -238,8 +238,7 @@ module _ (t u : List ℕ) (S : SameContents t u) where
   -- Start
   start-turn-alike : (s z : List ℕ) → SameStock (width_of t) (width_of u) (length (groups_in t)) s z → (E : Result (Option ℕ) Refusal) → start_turn E u z ≡ start_turn E t s
   unfolding start_turn decode_table
-  start-turn-alike s z P (Err why.Unsound) = refl
-  start-turn-alike s z P (Err why.Address) = refl
+  start-turn-alike s z P (Err r) = refl
   start-turn-alike s z P (Ok None) = admit-start-alike (decode_table t) (decode_table u) size S.table s z P None
   start-turn-alike s z P (Ok (Some k)) = admit-start-alike (decode_table t) (decode_table u) size S.table s z P (Some k)
 
@@ -269,8 +268,7 @@ module _ (t u : List ℕ) (S : SameContents t u) where
   module _ (frame s z expected : List ℕ) (verdict : ℕ) (P : SameStock (width_of t) (width_of u) (length (groups_in t)) s z) where
     frame-turn-alike : (E : Result (Option ℕ) Refusal) → frame_turn E u frame z expected verdict ≡ frame_turn E t frame s expected verdict
     unfolding frame_turn decode_table
-    frame-turn-alike (Err why.Unsound) = refl
-    frame-turn-alike (Err why.Address) = refl
+    frame-turn-alike (Err r) = refl
     frame-turn-alike (Ok None) = admit-frame-alike (decode_table t) (decode_table u) size S.table s z P None frame expected verdict
     frame-turn-alike (Ok (Some k)) = admit-frame-alike (decode_table t) (decode_table u) size S.table s z P (Some k) frame expected verdict
 
@@ -329,8 +327,7 @@ module _ (t u : List ℕ) (S : SameContents t u) where
 
   write-record-by : (E : Result (Option ℕ) Refusal) (sequence : ℕ) (value out : List ℕ) → writes_record_by E t sequence value out ≡ writes_record_by E u sequence value out
   unfolding writes_record_by
-  write-record-by (Err why.Unsound) sequence value out = refl
-  write-record-by (Err why.Address) sequence value out = refl
+  write-record-by (Err r) sequence value out = refl
   write-record-by (Ok None) sequence value out = refl
   write-record-by (Ok (Some k)) sequence value out =
       rw (groups-alike (decode_table t) (decode_table u) size S.table, slot-alike (decode_table t) (decode_table u) size S.table k) refl

@@ -26,8 +26,8 @@ use Rattle.causes.specs.declared.Refusal.{Refusal}
 use Rattle.causes.specs.declared.Refusal.TheVariants as why
 use Rattle.answers.specs.Outcome.{Outcome}
 use Rattle.answers.specs.Outcome as outcome
-use Rattle.answers.specs.Answers.{Told, returned, ends, seating, finish_at, finishes, turned, refuse, refused, said, quiet, none_due}
-use Rattle.writer.specs.Writer.{refuse_out, wrote_of, draws, writes_parts, record_body, writes_record_by, writes_record}
+use Rattle.answers.specs.Answers.{Report, returned, ends, seating, finish_at, finishes, turned, refuse, refused, said, quiet, none_due}
+use Rattle.writer.specs.Writer.{refuse_out, draws, writes_parts, record_body, writes_record_by, writes_record}
 use Rattle.moves.specs.declared.Direction.{Direction}
 use Rattle.moves.specs.declared.Direction.TheVariants.{Forward, Back}
 use Rattle.moves.specs.Moves.{source_form, target_form, moved, is_of, hindered, hindrance, fitting, Moved, refuse_move, moves}
@@ -282,7 +282,7 @@ served None = outcome.NoneDue
 
 serve-outcome : (f : Option ℕ) (t : List ℕ) (time : ℕ) → (expires_by f t time).answer.outcome ≡ served f
 unfolding expires_by ends none_due said
-serve-outcome (Some k) t time = ap (λ (r : Told). r.outcome) (due-answer t time k)
+serve-outcome (Some k) t time = ap (λ (r : Report). r.outcome) (due-answer t time k)
 serve-outcome None t time = refl
 
 pub expire-refuses : (t : List ℕ) (time : ℕ) → (expires t time).answer.outcome ≡ first_cause outcome.Refused (clock_causes t) (served (due_slot (decode_table t) time))
@@ -330,11 +330,7 @@ returned_by (Err c) = number c
 draws_answer : (d : Drawn) (out : List ℕ) → (draws d out).answer ≡ (if outside d then Err why.Body else if longer d out then Err why.Short else Ok (drawn_length d))
 unfolding draws written
 draws_answer Outside out = refl
-draws_answer (Octets s) out = go (ltb (length out) (length s))
-  where
-    go : (b : Bool) → wrote_of (if b then (Err why.Short) else Ok (length s)) ≡ (if b then Err why.Short else Ok (length s))
-    go true = refl
-    go false = refl
+draws_answer (Octets s) out = refl
 
 pub write-parts-refuses : (t : List ℕ) (sequence status group counter : ℕ) (token rest out : List ℕ)
     → (writes_parts t sequence status group counter token rest out).answer
@@ -442,7 +438,7 @@ unfolding draws written leaves
 draws-refused Outside out c e = refl
 draws-refused (Octets s) out c e = go (ltb (length out) (length s)) e
   where
-    go : (b : Bool) → wrote_of (if b then (Err why.Short) else Ok (length s)) ≡ Err c → (if b then out else put out 0 s) ≡ out
+    go : (b : Bool) → ◌≡◌ {A = Result ℕ Refusal} (if b then Err why.Short else Ok (length s)) (Err c) → (if b then out else put out 0 s) ≡ out
     go true q = refl
     go false q = let z : ◌≡◌ {A = ℕ} 0 1 = cc in absurd (omega arith)
 
@@ -461,8 +457,7 @@ unfolding writes_record writes_record_by
 write-record-refused t a sequence value out c e = go (entry t a) e
   where
     go : (E : Result (Option ℕ) Refusal) → (writes_record_by E t sequence value out).answer ≡ Err c → (writes_record_by E t sequence value out).out ≡ out
-    go (Err why.Unsound) q = refl
-    go (Err why.Address) q = refl
+    go (Err r) q = refl
     go (Ok None) q = refl
     go (Ok (Some k)) q = draws-refused _ out c q
 

@@ -22,7 +22,7 @@ use Rattle.record.specs.declared.Peer.{Peer}
 use Rattle.record.specs.Layout.{counted, no_peer, no_run, no_link}
 use Rattle.soundness.specs.Soundness.{usable, run_ok}
 use Rattle.soundness.proofs.Laws.{run-is-committed, run-is-confirmed, run-states}
-use Rattle.table.specs.Table.{decode_table, slot, finds, look_by, look, sound, entry, found_entry}
+use Rattle.table.specs.Table.{decode_table, slot, finds, look_by, look, sound, entry}
 use Rattle.table.proofs.Laws.{found_below}
 use Rattle.rules.specs.declared.Frame.{Frame}
 use Rattle.rules.specs.declared.Frames.{Frames}
@@ -31,7 +31,7 @@ use Rattle.message.specs.View.{message}
 use Rattle.rule_laws.proofs.Keeps.{Kept, parts}
 use Rattle.rule_laws.proofs.Tells.{Told, a_commit, a_confirm, an_answer, a_request, a_refusal, Tells, tell_none, tell_one, tell_two, Truthful, States, frame-tells, start-tells, clock-tells}
 use Rattle.causes.specs.declared.Refusal.{Refusal}
-use Rattle.answers.specs.Answers.{Told, Left, ends, turned, refuse, refused, said, none_due}
+use Rattle.answers.specs.Answers.{Report, Left, ends, turned, refuse, refused, said, none_due}
 use Rattle.answers.proofs.Ending.{Finished, Turned, denied, done, turn-ends}
 use Rattle.writer.specs.Writer.{draws, writes_parts, record_commit, record_confirm, record_body, writes_record_by, writes_record}
 use Rattle.calls.specs.Calls.{start_step, initiates, kill_turn, kill_step, kills, frame_step, receives, due_slot, clock_step, expires_by, expires}
@@ -50,7 +50,7 @@ pub record Seen (t a : List ℕ) : Type 0 where
 
 module _ (t a : List ℕ) (b : Bytes t) (s : sound t ≡ true) (q : usable (own_in t) a ≡ true) where
   seen_by : (f : Option ℕ) → finds (decode_table t) a ≡ f → (((look (decode_table t) a).run.state ≡ 0) × ((look (decode_table t) a).link.finished ≡ 0) → ⊥) → Seen t a
-  unfolding entry found_entry look look_by no_peer no_run no_link
+  unfolding entry look look_by no_peer no_run no_link
   seen_by (Some k) e h =
       let i : slot (decode_table t) k ≡ look (decode_table t) a = ap (look_by (decode_table t)) (sym e) in
       record {
@@ -211,7 +211,7 @@ finish-writes : (t a : List ℕ) (s : Step) (l : Left) → usable (own_in t) a �
 unfolding said
 finish-writes t a s l q F T =
     let o : own_in l.table ≡ own_in t = own-kept (decode_table t).header (decode_table l.table).header _ F.header in
-    subst (Writables l.table a) (sym (ap (λ (r : Told). r.frames) F.answer))
+    subst (Writables l.table a) (sym (ap (λ (r : Report). r.frames) F.answer))
     (tells-written l.table a F.bytes F.sound (subst (λ (x : List ℕ). usable x a ≡ true) (sym o) q) s.frames (subst (λ (p : Peer). Tells p s.frames) (sym F.here) T.tells))
 
 refused-writes : (t a : List ℕ) (c : Refusal) (l : Left) → l ≡ refuse t c → Writables l.table a l.answer.frames
@@ -248,9 +248,9 @@ receive-writes t a time frame fresh expected verdict b la ba ht br bf be hv =
     (entered-usable t a f c, frame-tells _ _ _ _ (viewed (groups_in t) frame br).group (kept-states _ _ _ a _ (entered-kept t a b la ba f c))))
     (turn-ends _ _ t a b la ba (λ f e. receive_good t a time frame fresh expected verdict f b la ba ht br bf be hv e))
 
-kill-none : (t a : List ℕ) (r : Told) → r ≡ said kill_step a → Writables t a r.frames
+kill-none : (t a : List ℕ) (r : Report) → r ≡ said kill_step a → Writables t a r.frames
 unfolding said kill_step
-kill-none t a r e = subst (λ (x : Told). Writables t a x.frames) (sym e) write_none
+kill-none t a r e = subst (λ (x : Report). Writables t a x.frames) (sym e) write_none
 
 said-address : (s : Step) (a : List ℕ) → (said s a).address ≡ a
 unfolding said
@@ -261,7 +261,7 @@ AtItsAddress l = Writables l.table l.answer.address l.answer.frames
 
 finish-writes-at : (t a : List ℕ) (s : Step) (l : Left) → usable (own_in t) a ≡ true → Finished t a s l → Truthful s → AtItsAddress l
 finish-writes-at t a s l q F T =
-    subst (λ (x : List ℕ). Writables l.table x l.answer.frames) (sym (ap (λ (r : Told). r.address) F.answer ∙ said-address s a)) (finish-writes t a s l q F T)
+    subst (λ (x : List ℕ). Writables l.table x l.answer.frames) (sym (ap (λ (r : Report). r.address) F.answer ∙ said-address s a)) (finish-writes t a s l q F T)
 
 -- set up and kill send nothing; the clock's answer has the address
 pub kill-writes : (t a : List ℕ) → Bytes t → length a ≡ 6 → Bytes a → Writables (kills t a).table a (kills t a).answer.frames

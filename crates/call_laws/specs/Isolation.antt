@@ -3,7 +3,7 @@
 use Rattle.std.specs.Prelude.{◌≡◌, Bool, true, false, ◌&&◌, List, [], ◌∷◌, ℕ, ◌^◌, ◌<◌, length, if◌then◌else◌}
 use Rattle.octets.specs.Octets.{Bytes, same_address}
 use Rattle.table.specs.Table.{decode_table, belongs, look_by}
-use Rattle.answers.specs.Answers.{Told, Left}
+use Rattle.answers.specs.Answers.{Report, Left}
 use Rattle.calls.specs.Calls.{crowded, full, initiates, kills, receives, due_slot, expires}
 use Rattle.call_laws.specs.Alike.{SameFor}
 
@@ -73,7 +73,7 @@ reaches a t [] = []
 reaches a t (c ∷ cs) = if about a (after t cs) c then reach (after t cs) c ∷ reaches a t cs else reaches a t cs
 
 -- what the calls about it answer
-unfoldable pub answers : List ℕ → List ℕ → List PeerCall → List Told
+unfoldable pub answers : List ℕ → List ℕ → List PeerCall → List Report
 answers a t [] = []
 answers a t (c ∷ cs) = if about a (after t cs) c then (left (after t cs) c).answer ∷ answers a t cs else answers a t cs
 

@@ -8,7 +8,7 @@ use Rattle.table.specs.Table.{decode_table, sound}
 use Rattle.good_links.specs.GoodLinks.{filled, fills}
 use Rattle.message.specs.declared.View.{View}
 use Rattle.message.specs.View.{view}
-use Rattle.answers.specs.Answers.{Told}
+use Rattle.answers.specs.Answers.{Report}
 use Rattle.writer.specs.Writer.{LeftOut, writes_parts, writes_record}
 use Rattle.lookups.specs.Lookups.{asks_deadline, asks_good}
 use Rattle.moves.specs.Moves.{SameContents}
@@ -43,7 +43,7 @@ pub data Further : Type 0 where
 -- what a further call answers: of a fill whether it is done, or refused 2; what a writer answers and leaves of the buffer; of the reader whether the table is
 -- sound, and all that it sees of the frame
 pub data Reply : Type 0 where
-  answered : Told → Reply
+  answered : Report → Reply
   filled_so : Bool → Reply
   wrote : LeftOut → Reply
   heard : Bool → View → Reply

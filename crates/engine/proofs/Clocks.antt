@@ -19,7 +19,7 @@ use Rattle.rules.specs.Book.{expired, on_clock}
 use Rattle.rules.specs.Given.{terms, call}
 use Rattle.rule_laws.proofs.Slots.{clock-seated}
 use Rattle.causes.specs.declared.Refusal.{Refusal}
-use Rattle.answers.specs.Answers.{Told, Left, Leaves, ends, seating, refused, none_due, answered, finishes}
+use Rattle.answers.specs.Answers.{Report, Left, Leaves, ends, seating, refused, none_due, answered, finishes}
 use Rattle.calls.specs.Calls.{clock_of, brings, due_slot, clock_step, expires_by, expires}
 use Rattle.engine.specs.InSlot.{Held, given_by, DoesAt}
 use Rattle.engine.proofs.Windows.{seat-done}
@@ -30,7 +30,7 @@ unfolding due_slot
 due-law T n time r e q = q ∙ ap (first_below (λ k. expired (slot T k) time)) e
 
 -- the due record is served
-pub served : (t : List ℕ) (h : Header) (k : ℕ) (H : Held t h (Some k)) (u v a : List ℕ) (time : ℕ) (g : Given) (x : Said) (r : Told) → a ≡ (slot (decode_table t) k).address
+pub served : (t : List ℕ) (h : Header) (k : ℕ) (H : Held t h (Some k)) (u v a : List ℕ) (time : ℕ) (g : Given) (x : Said) (r : Report) → a ≡ (slot (decode_table t) k).address
     → g ≡ given_by h a time (replicate 32 0) false → DoesAt x u t k (on_clock (terms g (groups_of h)) (call g []) (slot (decode_table t) k))
     → (r ≡ answered x a) × (v ≡ encode_table (recounted (decode_table u)))
     → Leaves r v (finishes t (Some k) (clock_step (decode_table t) k time) (slot (decode_table t) k).address)
@@ -44,7 +44,7 @@ served t h k H u v a time g x r ea eg d w =
     ∙ (λ i. on_clock (terms (given_by h (ea i) time (replicate 32 0) false) (groups_of h)) (call (sym G i) []) (slot (decode_table t) k))
     ∙ (λ i. on_clock (terms (sym G i) (groups_of h)) (call g []) (slot (decode_table t) k))) d w)
 
-pub expire-unsound : (t : List ℕ) (time : ℕ) (c : Refusal) (r : Told) → checked t ≡ Err c → r ≡ refused c → Leaves r t (expires t time)
+pub expire-unsound : (t : List ℕ) (time : ℕ) (c : Refusal) (r : Report) → checked t ≡ Err c → r ≡ refused c → Leaves r t (expires t time)
 unfolding expires
 expire-unsound t time c r e er = let z = unsound t c e in rw z.0 (record { answer = er ∙ ap refused z.1; table = refl })
 
@@ -53,7 +53,7 @@ module _ (t : List ℕ) (time : ℕ) (h : Header) (L : Looked t h) (d : Option �
   unfolding expires
   expires-by x e = let w : due_slot (decode_table t) time ≡ x = sym ed ∙ e in rw (L.whole, w) refl
 
-  pub expire-none : (r : Told) → Bytes t → d ≡ None → r ≡ none_due → Leaves r t (expires t time)
+  pub expire-none : (r : Report) → Bytes t → d ≡ None → r ≡ none_due → Leaves r t (expires t time)
   unfolding expires_by ends
   expire-none r y e er = subst (λ (l : Left). Leaves r t l) (sym (expires-by None e)) (record { answer = er; table = sym (recounted-again t y L.whole) })
 
@@ -68,6 +68,6 @@ module _ (t : List ℕ) (time : ℕ) (h : Header) (L : Looked t h) (d : Option �
         header = L.header;
       }
 
-  pub expire-at : (k : ℕ) (r : Told) (u : List ℕ) → d ≡ Some k → Leaves r u (finishes t (Some k) (clock_step (decode_table t) k time) (slot (decode_table t) k).address) → Leaves r u (expires t time)
+  pub expire-at : (k : ℕ) (r : Report) (u : List ℕ) → d ≡ Some k → Leaves r u (finishes t (Some k) (clock_step (decode_table t) k time) (slot (decode_table t) k).address) → Leaves r u (expires t time)
   unfolding expires_by
   expire-at k r u e l = subst (λ (l : Left). Leaves r u l) (sym (expires-by (Some k) e)) l

@@ -31,7 +31,7 @@ use Rattle.message.specs.View.{view, read_view, message_of, message}
 use Rattle.message.proofs.Laws.{view-read, view-unread, message-storable}
 use Rattle.causes.specs.declared.Refusal.{Refusal}
 use Rattle.causes.specs.declared.Refusal.TheVariants as why
-use Rattle.answers.specs.Answers.{Told, Leaves, ends, refuse, seating, refused, said, answered, finish_at, finishes}
+use Rattle.answers.specs.Answers.{Report, Leaves, ends, refuse, seating, refused, said, answered, finish_at, finishes}
 use Rattle.answers.proofs.Laws.{clashed, turned-refused, turned-go}
 use Rattle.calls.specs.Calls.{terms_of, clock_of, brings, fresh_in, admit_frame, frame_turn, frame_step, receives}
 use Rattle.engine.specs.InSlot.{Held, Stocks, Fitting, given_by, slotless, Brought, AdmitsFrame, DoesAt, answers_outside}
@@ -148,7 +148,7 @@ token-all s r l e = e ∙ take_all 32 s (omega (arith, l))
 -- ---- the step
 
 -- outside the table
-module _ (s : Step) (a : List ℕ) (x : Said) (r : Told) (e : x ≡ saying s) where
+module _ (s : Step) (a : List ℕ) (x : Said) (r : Report) (e : x ≡ saying s) where
   pub outside-refused : x.refused ≡ true → r ≡ refused why.Full → r ≡ answers_outside s a
   outside-refused q z = z ∙ go s.refused (sym (ap (λ (y : Said). y.refused) e) ∙ q)
     where
@@ -170,7 +170,7 @@ pub outside-says : (h : Header) (g : Given) (m : Message) (w : ℕ) (gs fresh s 
 outside-says h g m w gs fresh s left x ew eg e d = d.says ∙ (λ i. saying (on_frame (terms g (eg i)) (call g (fresh_of (ew i) fresh)) (e i) m))
 
 -- no slot: the table stays
-outside-leaves : (t : List ℕ) (f : Option ℕ) (s : Step) (a : List ℕ) (r : Told) → Bytes t → sound t ≡ true → seating (decode_table t) f ≡ None → r ≡ answers_outside s a → Leaves r t (finishes t f s a)
+outside-leaves : (t : List ℕ) (f : Option ℕ) (s : Step) (a : List ℕ) (r : Report) → Bytes t → sound t ≡ true → seating (decode_table t) f ≡ None → r ≡ answers_outside s a → Leaves r t (finishes t f s a)
 unfolding finishes finish_at ends
 outside-leaves t f s a r b w e z = subst (λ (g : Option ℕ). Leaves r t (if s.refused then refuse t why.Full else finish_at g t s a)) (sym e) (go s.refused z)
   where
@@ -178,7 +178,7 @@ outside-leaves t f s a r b w e z = subst (λ (g : Option ℕ). Leaves r t (if s.
     go true q = record { answer = q; table = refl }
     go false q = record { answer = q; table = sym (recounted-again t b w) }
 
-module _ (t : List ℕ) (h : Header) (f : Option ℕ) (H : Held t h f) (g : Given) (B : Brought g h) (m : Message) (fresh : List (List ℕ)) (r : Told) where
+module _ (t : List ℕ) (h : Header) (f : Option ℕ) (H : Held t h f) (g : Given) (B : Brought g h) (m : Message) (fresh : List (List ℕ)) (r : Report) where
   -- in the slot
   pub hear-seated : (k : ℕ) (j : Option ℕ) (u v : List ℕ) (x : Said) → Bytes t → j ≡ seating (decode_table t) f → j ≡ Some k
       → DoesAt x u t k (on_frame (terms g (groups_of h)) (call g fresh) (slot (decode_table t) k) m) → (r ≡ answered x g.address) × (v ≡ encode_table (recounted (decode_table u)))
@@ -234,7 +234,7 @@ pub receive-goes : (t a frame fresh expected : List ℕ) (verdict : ℕ) (e : En
 receive-goes t a frame fresh expected verdict e E A K v q = frame-goes t e.header frame fresh expected verdict e.slot e.slot (entered-held t a e E) (K.goes v q (decode_table t) e.slot E.looked.header)
 
 -- the call, by what its address came to
-module _ (t a : List ℕ) (time : ℕ) (frame fresh expected : List ℕ) (verdict : ℕ) (r : Told) where
+module _ (t a : List ℕ) (time : ℕ) (frame fresh expected : List ℕ) (verdict : ℕ) (r : Report) where
   pub receive-unentered : (c : Refusal) → entry t a ≡ Err c → r ≡ refused c → Leaves r t (receives t a time frame fresh expected verdict)
   unfolding receives frame_turn
   receive-unentered c e z = turned-refused _ _ t a (Err c) (sym (ap (λ (y : Result (Option ℕ) Refusal). frame_turn y t frame fresh expected verdict) e)) r c refl z

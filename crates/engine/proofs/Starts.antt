@@ -30,7 +30,7 @@ use Rattle.causes.proofs.Laws.{passed, stopped}
 use Rattle.causes.specs.declared.Refusal.{Refusal}
 use Rattle.causes.specs.declared.Refusal.TheVariants as why
 use Rattle.answers.specs.declared.Answer.{Answer}
-use Rattle.answers.specs.Answers.{Told, telling, quiet_answer, Leaves, ends, seating, refused, quiet, answered, finishes, turned}
+use Rattle.answers.specs.Answers.{Report, telling, quiet_answer, Leaves, ends, seating, refused, quiet, answered, finishes, turned}
 use Rattle.answers.proofs.Laws.{clashed, full-refused, turned-refused, turned-go}
 use Rattle.calls.specs.Calls.{crowded, full, terms_of, clock_of, brings, fresh_in, initializes, admit_start, start_turn, start_step, initiates, kill_turn, kill_step, kills}
 use Rattle.engine.specs.InSlot.{Held, Stocks, given_by, slotless, Clocked, Brought, DoesAt}
@@ -141,7 +141,7 @@ start-goes t h fresh f g H e =
     let G = subst (Held t h) w.1 H in
     (G, stocks t h g fresh G w.0)
 
-module _ (t : List ℕ) (h : Header) (f : Option ℕ) (H : Held t h f) (a : List ℕ) (time : ℕ) (fresh : List ℕ) (r : Told) where
+module _ (t : List ℕ) (h : Header) (f : Option ℕ) (H : Held t h f) (a : List ℕ) (time : ℕ) (fresh : List ℕ) (r : Report) where
   -- the step in the slot, finished
   pub started : (k : ℕ) (g : Option ℕ) (u v : List ℕ) (x : Said) (y : Given) → Bytes t → g ≡ seating (decode_table t) f → g ≡ Some k → y ≡ given_by h a time (replicate 32 0) false
       → DoesAt x u t k (on_start (terms y (groups_of h)) (call y (fresh_in h fresh)) (slot (decode_table t) k))
@@ -160,7 +160,7 @@ module _ (t : List ℕ) (h : Header) (f : Option ℕ) (H : Held t h f) (a : List
   start-full g p q z = full-refused t a f _ r (start-refused _ _ _ ∙ (seat-none (decode_table t) f (sym p ∙ q)).1) z
 
 -- the call, by what its address came to
-module _ (t a : List ℕ) (time : ℕ) (fresh : List ℕ) (r : Told) where
+module _ (t a : List ℕ) (time : ℕ) (fresh : List ℕ) (r : Report) where
   pub initiate-unentered : (c : Refusal) → entry t a ≡ Err c → r ≡ refused c → Leaves r t (initiates t a time fresh)
   unfolding initiates start_turn
   initiate-unentered c e z = turned-refused _ _ t a (Err c) (sym (ap (λ (y : Result (Option ℕ) Refusal). start_turn y t fresh) e)) r c refl z
@@ -189,7 +189,7 @@ unfolding kill_step
 kill-seated = refl
 
 -- the call, by what its address came to
-module _ (t a : List ℕ) (r : Told) where
+module _ (t a : List ℕ) (r : Report) where
   kills-by : (x : Result (Option ℕ) Refusal) → entry t a ≡ x → kills t a ≡ turned (kill_turn x) (λ f. kill_step) t a
   unfolding kills
   kills-by x e = ap (λ (y : Result (Option ℕ) Refusal). turned (kill_turn y) (λ f. kill_step) t a) e
@@ -218,7 +218,7 @@ pub quiet-told : (own : List ℕ) (a : Answer) → a ≡ quiet_answer own → te
 unfolding quiet
 quiet-told own a e = ap telling e
 
-module _ (t own u : List ℕ) (s : Settings) (w : Result (Unit {0}) Refusal) (r : Told) (ew : w ≡ passes (initial_ok made s own (length t)) why.Settings) (eu : u ≡ initial made s own t) where
+module _ (t own u : List ℕ) (s : Settings) (w : Result (Unit {0}) Refusal) (r : Report) (ew : w ≡ passes (initial_ok made s own (length t)) why.Settings) (eu : u ≡ initial made s own t) where
   pub initialize-done : (x : Unit {0}) → w ≡ Ok x → r ≡ quiet own → Leaves r u (initializes made t own s)
   unfolding initializes initial ends
   initialize-done x q er =

@@ -19,7 +19,7 @@ use Rattle.table.proofs.Changed.{with-peer-decoded, changed}
 use Rattle.rules.specs.declared.Said.{Said}
 use Rattle.rules.specs.Book.{Step}
 use Rattle.rules.specs.Said.{Does, saying}
-use Rattle.answers.specs.Answers.{Told, Leaves, Seated, seating, answered, finishes}
+use Rattle.answers.specs.Answers.{Report, Leaves, Seated, seating, answered, finishes}
 use Rattle.answers.proofs.Laws.{free-record, finish-law}
 use Rattle.engine.specs.InSlot.{Held, DoesAt}
 use Rattle.engine.proofs.Headers.{held-ready, held-reached, window, window-is}
@@ -62,13 +62,13 @@ look-seat t (Some j) k b S e = let y : j ≡ k = cc in ap (slot (decode_table t)
 look-seat t None k b S e = sym (free-record t k b S.whole e)
 
 -- the end of a call whose step is s, which the code made as s' in slot k
-pub seat-done : (t : List ℕ) (f : Option ℕ) (k : ℕ) (u v a : List ℕ) (x : Said) (s s' : Step) (r : Told) → seating (decode_table t) f ≡ Some k → s.refused ≡ false → s ≡ s'
+pub seat-done : (t : List ℕ) (f : Option ℕ) (k : ℕ) (u v a : List ℕ) (x : Said) (s s' : Step) (r : Report) → seating (decode_table t) f ≡ Some k → s.refused ≡ false → s ≡ s'
     → DoesAt x u t k s' → (r ≡ answered x a) × (v ≡ encode_table (recounted (decode_table u))) → Leaves r v (finishes t f s a)
 seat-done t f k u v a x s s' r e n q d w =
     finish-law t a f s r u v k x n e (d.leaves ∙ ap (λ (y : Step). with_peer (decode_table t) k y.peer) (sym q)) (d.says ∙ ap saying (sym q)) w.0 w.1
 
 -- the same, of a record that is there
-pub slot-done : (t : List ℕ) (k : ℕ) (u v a : List ℕ) (x : Said) (s : Step) (r : Told) → s.refused ≡ false → DoesAt x u t k s
+pub slot-done : (t : List ℕ) (k : ℕ) (u v a : List ℕ) (x : Said) (s : Step) (r : Report) → s.refused ≡ false → DoesAt x u t k s
     → (r ≡ answered x a) × (v ≡ encode_table (recounted (decode_table u))) → Leaves r v (finishes t (Some k) s a)
 unfolding seating
 slot-done t k u v a x s r n d w = seat-done t (Some k) k u v a x s s r refl n refl d w

@@ -14,7 +14,7 @@ use Rattle.message.specs.declared.View.{View}
 use Rattle.message.specs.View.{view, message_of}
 use Rattle.causes.specs.declared.Refusal.{Refusal}
 use Rattle.causes.specs.declared.Refusal.TheVariants as why
-use Rattle.answers.specs.Answers.{Told, Seated, refused, said}
+use Rattle.answers.specs.Answers.{Report, Seated, refused, said}
 use Rattle.calls.specs.Calls.{crowded, clock_of, admit_frame}
 
 -- ---- what was loaded and tested once
@@ -80,5 +80,5 @@ pub record DoesAt (x : Said) (left t : List ℕ) (k : ℕ) (s : Step) : Type 0 w
   pub says : x ≡ saying s
 
 -- what is answered where no slot is free
-abbrev pub answers_outside : Step → List ℕ → Told
+abbrev pub answers_outside : Step → List ℕ → Report
 answers_outside s address = if s.refused then refused why.Full else said s address

@@ -35,7 +35,7 @@ use Rattle.record.specs.declared.Peer.{Peer}
 use Rattle.table.specs.Table.{decode_table, sound, Looked}
 use Rattle.table.proofs.Laws.{looked-sound, looked-header}
 use Rattle.good_links.specs.GoodLinks.{filled, fills}
-use Rattle.answers.specs.Answers.{Told, Left, Leaves, returned, refused}
+use Rattle.answers.specs.Answers.{Report, Left, Leaves, returned, refused}
 use Rattle.answers.specs.Outcome.{Outcome}
 use Rattle.causes.specs.declared.Refusal.{Refusal}
 use Rattle.causes.specs.declared.Refusal.TheVariants as why
@@ -100,7 +100,7 @@ length-frames f fs e = ap length e ∙ go f
     go (frames.One g) = framed-length 1 (frame_octets g) (replicate 8 0) (frame-length g) refl
     go (frames.Two g h) = framed-length 2 (frame_octets g) (frame_octets h) (frame-length g) (frame-length h)
 
-pub answer-laid : (x : Told) (none event : ℕ) (fs z a b c d e : List ℕ) → none ≡ none_due_flag x.outcome → event ≡ event_number x.event → fs ≡ frames_octets x.frames → length x.address ≡ 6 → length fs ≡ 18
+pub answer-laid : (x : Report) (none event : ℕ) (fs z a b c d e : List ℕ) → none ≡ none_due_flag x.outcome → event ≡ event_number x.event → fs ≡ frames_octets x.frames → length x.address ≡ 6 → length fs ≡ 18
     → length z ≡ 28 → a ≡ put z 0 (oct 1 none) → b ≡ put a 1 (oct 1 event) → c ≡ put b 2 (oct 2 x.afresh) → d ≡ put c 4 x.address → e ≡ put d 10 fs → e ≡ answer_octets x
 unfolding answer_octets lay glue total
 answer-laid x none event fs z a b c d e en ee ef ha hf hz ea eb ec ed eg =
@@ -110,7 +110,7 @@ answer-laid x none event fs z a b c d e en ee ef ha hf hz ea eb ec ed eg =
 
 -- ---- the answer, and what is returned
 
-module _ (a : Told) (given : List ℕ) (b : Bool) (p : b ≡ is_refused a.outcome) where
+module _ (a : Report) (given : List ℕ) (b : Bool) (p : b ≡ is_refused a.outcome) where
   pub left-refused : b ≡ true → given ≡ answer_left a given
   unfolding answer_left
   left-refused q = let z : is_refused a.outcome ≡ true = sym p ∙ q in rw z
@@ -119,8 +119,8 @@ module _ (a : Told) (given : List ℕ) (b : Bool) (p : b ≡ is_refused a.outcom
   unfolding answer_left
   left-answered x q w = let z : is_refused a.outcome ≡ false = sym p ∙ q in rw z w
 
-pub replied : (x : Told) (t : List ℕ) (l : Left) (r : ℕ) (answer given : List ℕ) → Leaves x t l → r ≡ returned x.outcome → answer ≡ answer_left x given → Returns r t answer given l
-replied x t l r answer given e q w = record { returns = q ∙ ap (λ (y : Told). returned y.outcome) e.answer; leaves = e.table; answers = w ∙ ap (λ (y : Told). answer_left y given) e.answer }
+pub replied : (x : Report) (t : List ℕ) (l : Left) (r : ℕ) (answer given : List ℕ) → Leaves x t l → r ≡ returned x.outcome → answer ≡ answer_left x given → Returns r t answer given l
+replied x t l r answer given e q w = record { returns = q ∙ ap (λ (y : Report). returned y.outcome) e.answer; leaves = e.table; answers = w ∙ ap (λ (y : Report). answer_left y given) e.answer }
 
 -- ---- the settings
 
@@ -131,11 +131,11 @@ unfolding settings_of
 settings-are s n g h i k p l en eg eh ei ek ep el = rw (en, eg, eh, ei, ek, ep, el)
 
 module _ (f : Form) (t own s : List ℕ) (b : Bool) (p : b ≡ reserved_zero s) where
-  pub from-reserved : (r : Told) → not b ≡ true → r ≡ refused why.Settings → Leaves r t (initializes_from f t own s)
+  pub from-reserved : (r : Report) → not b ≡ true → r ≡ refused why.Settings → Leaves r t (initializes_from f t own s)
   unfolding initializes_from
   from-reserved r q w = let z : reserved_zero s ≡ false = sym p ∙ not-true b q in rw z (record { answer = w; table = refl })
 
-  pub from-settings : (x : Settings) (u : List ℕ) (r : Told) → not b ≡ false → x ≡ settings_of s → Leaves r u (initializes f t own x) → Leaves r u (initializes_from f t own s)
+  pub from-settings : (x : Settings) (u : List ℕ) (r : Report) → not b ≡ false → x ≡ settings_of s → Leaves r u (initializes f t own x) → Leaves r u (initializes_from f t own s)
   unfolding initializes_from
   from-settings x u r q e l = let z : reserved_zero s ≡ true = sym p ∙ not-false b q in rw z (subst (λ (y : Settings). Leaves r u (initializes f t own y)) e l)
 

@@ -19,7 +19,7 @@ use Rattle.answers.specs.Outcome.{Outcome}
 use Rattle.answers.specs.Outcome as outcome
 use Rattle.causes.specs.declared.Refusal.{Refusal}
 use Rattle.causes.specs.declared.Refusal.TheVariants as why
-use Rattle.answers.specs.Answers.{Told, Left, ends, returned, refused, none_due, refuse, said, quiet, seating, finish_at, finishes, turned}
+use Rattle.answers.specs.Answers.{Report, Left, ends, returned, refused, none_due, refuse, said, quiet, seating, finish_at, finishes, turned}
 use Rattle.calls.specs.Calls.{initializes, initializes_from, initiates, kills, receives, due_slot, expires_by, expires}
 use Rattle.writer.specs.Writer.{LeftOut, writes_parts, writes_record}
 use Rattle.writer.proofs.Theorems.{parts-refused, record-refused}
@@ -33,7 +33,7 @@ use Rattle.sae.specs.Interface.{answer_left, Returns, read_number, read_parts, p
 pub record Refuses (t : List ℕ) (l : Left) : Type 0 where
   pub leaves : (c : Refusal) → l.answer.outcome ≡ outcome.Refused c → l.table ≡ t
 
-unchanged : (t : List ℕ) (a : Told) → Refuses t (record { answer = a; table = t })
+unchanged : (t : List ℕ) (a : Report) → Refuses t (record { answer = a; table = t })
 unchanged t a = record { leaves = λ c e. refl }
 
 finish-refuses : (t a : List ℕ) (f : Option ℕ) (s : Step) → Refuses t (finishes t f s a)

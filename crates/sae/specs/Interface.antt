@@ -15,7 +15,7 @@ use Rattle.good_links.specs.GoodLinks.{filled, fills}
 use Rattle.answers.specs.Outcome.{Outcome}
 use Rattle.answers.specs.Outcome as outcome
 use Rattle.causes.specs.declared.Refusal.TheVariants as why
-use Rattle.answers.specs.Answers.{Told, Left, returned}
+use Rattle.answers.specs.Answers.{Report, Left, returned}
 use Rattle.writer.specs.Writer.{LeftOut}
 use Rattle.lookups.specs.Lookups.{asked_returned}
 use Rattle.moves.specs.Moves.{Moved}
@@ -41,7 +41,7 @@ frames_octets frames.None = framed_octets 0 (replicate 8 0) (replicate 8 0)
 frames_octets (frames.One f) = framed_octets 1 (frame_octets f) (replicate 8 0)
 frames_octets (frames.Two f g) = framed_octets 2 (frame_octets f) (frame_octets g)
 
-unfoldable pub answer_octets : Told → List ℕ
+unfoldable pub answer_octets : Report → List ℕ
 answer_octets a = oct 1 (none_due_flag a.outcome) ++ (oct 1 (event_number a.event) ++ (oct 2 a.afresh ++ (a.address ++ frames_octets a.frames)))
 
 abbrev pub is_refused : Outcome → Bool
@@ -50,7 +50,7 @@ is_refused outcome.NoneDue = false
 is_refused (outcome.Refused c) = true
 
 -- "on a refusal every lent octet is as it was"
-unfoldable pub answer_left : Told → List ℕ → List ℕ
+unfoldable pub answer_left : Report → List ℕ → List ℕ
 answer_left a old = if is_refused a.outcome then old else answer_octets a
 
 -- a call's whole outcome: the number returned, the table and the answer at exit
