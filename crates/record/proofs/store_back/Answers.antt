@@ -18,6 +18,6 @@ returns c = let fit : length c.args.h.own ≡ 6 = search rules in let k = c in
       c.put16.ensures,
       c.put8-2.ensures,
       c.put8.ensures,
-      c.put6.ensures,
+      c.put_array.ensures,
     ) in
     chain ∙ store-back-law k.args.s.now k.args.h k.requires fit
