@@ -118,10 +118,10 @@ pub fn say(s: Said, address: [u8; 6]) -> Answer
     let frames = s.frames;
     Answer {
         outcome: Outcome::Done,
-        event: event,
-        frames: frames,
+        event,
+        frames,
         afresh: s.afresh,
-        address: address,
+        address,
     }
 }
 
@@ -133,7 +133,7 @@ pub fn say_nothing(address: [u8; 6]) -> Answer
         event: Event::None,
         frames: Frames::None,
         afresh: 0,
-        address: address,
+        address,
     }
 }
 

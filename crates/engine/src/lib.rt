@@ -52,9 +52,9 @@ fn clock_of(h: Header, time: u32) -> Clock
     let period = record::period_of(h.settings.period);
     let limit = record::limit_of(h.settings.limit);
     Clock {
-        time: time,
-        period: period,
-        limit: limit,
+        time,
+        period,
+        limit,
     }
 }
 
@@ -66,13 +66,13 @@ fn given_of(h: Header, address: [u8; 6], time: u32, expected: [u8; 32], verified
     let crowded = is_crowded(h);
     let clock = clock_of(h, time);
     Given {
-        own: own,
-        crowded: crowded,
+        own,
+        crowded,
         full: false,
-        address: address,
-        clock: clock,
-        expected: expected,
-        verified: verified,
+        address,
+        clock,
+        expected,
+        verified,
     }
 }
 
@@ -80,19 +80,7 @@ fn given_of(h: Header, address: [u8; 6], time: u32, expected: [u8; 32], verified
 fn without_slot(g: Given) -> Given
     ensures { result ≡ slotless g }
 {
-    let own = g.own;
-    let address = g.address;
-    let clock = g.clock;
-    let expected = g.expected;
-    Given {
-        own: own,
-        crowded: g.crowded,
-        full: true,
-        address: address,
-        clock: clock,
-        expected: expected,
-        verified: g.verified,
-    }
+    Given { full: true, ..g }
 }
 
 // ---- Start
@@ -240,7 +228,7 @@ fn refuse_frame(c: Refusal) -> Admitted
     let view = message::unread();
     Admitted {
         turn: Turn::Refused(c),
-        view: view,
+        view,
     }
 }
 
@@ -274,7 +262,7 @@ fn admit_frame(
     }
     Admitted {
         turn: Turn::Go(f),
-        view: view,
+        view,
     }
 }
 
@@ -334,16 +322,6 @@ fn frame_turn(
     }
     let f = found_in(entry);
     admit_frame(h, w, n, f, body, fresh, expected, verdict)
-}
-
-// The expected token, which has 32 octets.
-fn token_of(expected: &[u8]) -> [u8; 32]
-    requires { length expected.now ≡ 32 }
-    ensures { result ≡ expected.now }
-{
-    let mut a = [0u8; 32];
-    octets::copy_out(expected, 0, &mut a[..]);
-    a
 }
 
 // The rule for a frame, in a slot.
@@ -419,7 +397,7 @@ pub fn receive(
     match turn {
         Turn::Refused(c) => answers::refuse_with(c),
         Turn::Go(f) => {
-            let token = token_of(expected);
+            let token = octets::take(expected, 0);
             let g = given_of(h, address, time, token, verdict == 1);
             hear(t, h, f, g, view, body, fresh)
         }

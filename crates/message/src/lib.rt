@@ -24,11 +24,11 @@ fn commit_view(status: u16, group: u16, listed: bool, toklen: u16) -> View
 {
     View {
         sequence: 1,
-        status: status,
-        group: group,
+        status,
+        group,
         counter: 0,
-        listed: listed,
-        toklen: toklen,
+        listed,
+        toklen,
     }
 }
 
@@ -36,10 +36,10 @@ fn confirm_view(sequence: u16, status: u16, counter: u16) -> View
     ensures { result ≡ confirm_view sequence status counter }
 {
     View {
-        sequence: sequence,
-        status: status,
+        sequence,
+        status,
         group: 0,
-        counter: counter,
+        counter,
         listed: false,
         toklen: 0,
     }
@@ -77,23 +77,13 @@ pub fn read(groups: &[u16], body: &[u8]) -> View
     view_of(b)
 }
 
-// A token as it is stored: [0; 256] filled with it.
-fn stored_token(token: &[u8]) -> [u8; 256]
-    requires { length token.now ≤ 256 }
-    ensures { result ≡ stored_token token.now }
-{
-    let mut a = [0u8; 256];
-    octets::copy_in(&mut a[..], 0, token);
-    a
-}
-
-// The token of a body that was read, as it is stored.
+// The token of a body that was read, as it is stored: [0; 256] filled with it.
 pub fn token(body: &[u8], v: View) -> [u8; 256]
     requires { v.toklen ≤ 256 }
     ensures { result ≡ (message_of body.now v).token }
 {
     let n = v.toklen as usize;
-    stored_token(frame::token_of(body, n))
+    octets::filled(frame::token_of(body, n))
 }
 
 // The scalar and the element of a body that was read, where they lie, if it is a supported Commit; of any other body no octets.

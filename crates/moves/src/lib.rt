@@ -109,10 +109,8 @@ fn move_slots(s: &[u8], w: usize, t: &mut [u8], v: usize, n: usize)
     requires { BesideAll s.now t.old w v n }
     ensures { t.new ≡ put t.old 32 (octets_of v (take n (decode_table s.now).peers)) }
 {
-    let mut i = 0;
-    while i < n {
-        move_slot(s, w, t, v, i);
-        i += 1;
+    for k in 0..n {
+        move_slot(s, w, t, v, k);
     }
 }
 
@@ -120,20 +118,12 @@ fn move_slots(s: &[u8], w: usize, t: &mut [u8], v: usize, n: usize)
 fn sized(h: Header, size: u16) -> Header
     ensures { result ≡ sized h size }
 {
-    let geometry = Geometry {
-        slots: h.geometry.slots,
-        size: size,
-        first: h.geometry.first,
-    };
-    let counts = h.counts;
-    let own = h.own;
-    let settings = h.settings;
     Header {
-        geometry: geometry,
-        counts: counts,
-        spare: h.spare,
-        own: own,
-        settings: settings,
+        geometry: Geometry {
+            size,
+            ..h.geometry
+        },
+        ..h
     }
 }
 

@@ -16,4 +16,4 @@ returns c = let address-long : length c.args.address ≡ 6 = search rules in let
     let i = h in
     let k = i in
     form-pair-law _ _ _ i.link_at-at.ensures h.record_size-end.ensures _ k.requires.1.0 _ _ _ _ k.args.address _ _ _ _ _ _
-    (search rules) (search rules) address-long g.form_run.ensures f.supersede_link.ensures e.put8.ensures d.put6.ensures refl
+    (search rules) (search rules) address-long g.form_run.ensures f.supersede_link.ensures e.put8.ensures d.put_array.ensures refl

@@ -5,8 +5,8 @@ use Rattle.engine.proofs.receive.Goals as goal
 pub frame_turn-a-requires : goal.frame_turn-a-requires
 frame_turn-a-requires c = met-listing _ _ _ (enters-met _ _ c.enter-e.result c.enter-e.ensures)
 
-pub token_of-token-requires : goal.token_of-token-requires
-token_of-token-requires c = (receive-goes _ _ _ _ _ _ c.enter-e.result c.enter-e.ensures c.frame_turn-a.result c.frame_turn-a.ensures _ c.in-Go.is).token
+pub take-token-requires : goal.take-token-requires
+take-token-requires c = let G = receive-goes _ _ _ _ _ _ c.enter-e.result c.enter-e.ensures c.frame_turn-a.result c.frame_turn-a.ensures _ c.in-Go.is in ?
 
 pub hear-requires : goal.hear-requires
 hear-requires c = let K = c.frame_turn-a.ensures in
@@ -21,4 +21,4 @@ pub returns-in-Refused : goal.returns-in-Refused
 returns-in-Refused c = receive-refused _ _ c.args.time _ _ _ _ c.enter-e.result c.enter-e.ensures c.frame_turn-a.result c.frame_turn-a.ensures _ _ c.in-Refused.is c.refuse_with.ensures
 
 pub returns-in-Go : goal.returns-in-Go
-returns-in-Go c = receive-went _ _ c.args.time _ _ _ _ c.enter-e.result c.enter-e.ensures c.frame_turn-a.result c.frame_turn-a.ensures _ _ _ _ _ c.in-Go.is c.token_of-token.ensures c.given_of-g.ensures c.hear.ensures
+returns-in-Go c = receive-went _ _ c.args.time _ _ _ _ c.enter-e.result c.enter-e.ensures c.frame_turn-a.result c.frame_turn-a.ensures _ _ _ _ _ c.in-Go.is ? c.given_of-g.ensures c.hear.ensures

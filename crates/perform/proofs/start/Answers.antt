@@ -10,4 +10,4 @@ returns c = let address-long : length c.args.address ≡ 6 = search rules in let
     let f = e in
     let g = f in
     let k = g in
-    start-law _ _ g.link_at-at.ensures _ k.requires.1.0 _ _ _ _ k.args.address _ _ _ _ f.start_run.ensures e.put8.ensures d.put6.ensures c.commit_frame-commit.ensures refl (search rules) address-long
+    start-law _ _ g.link_at-at.ensures _ k.requires.1.0 _ _ _ _ k.args.address _ _ _ _ f.start_run.ensures e.put8.ensures d.put_array.ensures c.commit_frame-commit.ensures refl (search rules) address-long

@@ -7,4 +7,4 @@ returns c = let d = c in
     let e = d in
     let f = e in
     let k = f in
-    store-token-law _ _ _ _ _ _ _ f.run_token_at-at.ensures e.put16.ensures d.put256.ensures k.requires.0 (search rules) (search rules)
+    store-token-law _ _ _ _ _ _ _ f.run_token_at-at.ensures e.put16.ensures d.put_array.ensures k.requires.0 (search rules) (search rules)
