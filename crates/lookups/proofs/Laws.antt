@@ -1,6 +1,9 @@
 -- Laws of the lookups: what each function's cases show of their definitions.
 use Rattle.std.proofs.Common.{◌≡◌, ℕ, ◌+◌, ◌-◌, ◌%◌, ◌^◌, ◌<◌, ◌≤◌, Bool, true, false, not, List, sym, refl, ap, ◌∙◌, add-one, arith}
-use borrow.Author.Tests.{not-true}
+use Rattle.std.specs.Prelude.{ltb, min}
+use mathlib.Core.Logic.{inl, inr}
+use Rattle.octets.proofs.Scan.{cases}
+use borrow.Author.Tests.{not-true, ltb-true, ltb-false}
 use Rattle.record.specs.declared.Header.{Header}
 use Rattle.record.specs.declared.Peer.{Peer}
 use Rattle.rules.specs.Book.{due, ◌isnt◌}
@@ -82,3 +85,10 @@ module _ (t a : List ℕ) (x : Entry) (e : x ≡ entry t a) where
 
     pub offset-small : record_at w k < 2 ^ 32
     offset-small = let r = entry_ready t a k (sym e ∙ q) in record-bound w k m (omega (arith, r.below, r.small))
+
+-- the lesser of two, as std has it
+pub min-lesser : (a b : ℕ) → min a b ≡ lesser a b
+min-lesser a b = elim (cases (ltb b a)) [
+  | inl p ↦ let h : b < a = ltb-true _ _ p in rw p (omega arith)
+  | inr p ↦ let h : a ≤ b = ltb-false _ _ p in rw p (omega arith)
+]

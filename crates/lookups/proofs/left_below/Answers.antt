@@ -1,16 +1,16 @@
 use Rattle.table.proofs.Laws.{reach}
-use Rattle.std.proofs.Common.{rules}
-use Rattle.lookups.proofs.Laws.{least-none, least_more, least-through}
+use Rattle.std.proofs.Common.{rules, ◌∙◌}
+use Rattle.lookups.proofs.Laws.{least-none, least_more, least-through, min-lesser}
 use Rattle.lookups.proofs.left_below.Goals as goal
 
-pub loop-i-init : goal.loop-i-init
-loop-i-init c = (search rules, least-none _)
+pub loop-k-init : goal.loop-k-init
+loop-k-init c = (search rules, least-none _)
 
-pub left_at-left-requires : goal.left_at-left-requires
-left_at-left-requires c = let a = c in reach a.args.t.now a.args.w a.args.n c.loop-i.i a.requires c.loop-i-test.true
+pub left_at-requires : goal.left_at-requires
+left_at-requires c = let a = c in reach a.args.t.now a.args.w a.args.n c.loop-k.k a.requires c.loop-k-test.true
 
-pub loop-i-preserved : goal.loop-i-preserved
-loop-i-preserved c = (search rules, least_more _ _ _ _ _ c.loop-i.invariant.1 c.left_at-left.ensures c.lesser_of-least.ensures)
+pub loop-k-preserved : goal.loop-k-preserved
+loop-k-preserved c = (search rules, least_more _ _ _ _ _ c.loop-k.invariant.1 c.left_at.ensures (c.min-least.ensures ∙ min-lesser _ _))
 
 pub returns : goal.returns
-returns c = least-through _ _ _ _ c.loop-i.invariant.0 c.loop-i-test.false c.loop-i.invariant.1
+returns c = least-through _ _ _ _ c.loop-k.invariant.0 c.loop-k-test.false c.loop-k.invariant.1
