@@ -22,7 +22,7 @@ pub fn commit_frame(group: u16) -> Frame
     Frame {
         sequence: 1,
         status: 0,
-        group: group,
+        group,
         counter: 0,
     }
 }
@@ -33,7 +33,7 @@ pub fn token_request_frame(group: u16) -> Frame
     Frame {
         sequence: 1,
         status: 76,
-        group: group,
+        group,
         counter: 0,
     }
 }
@@ -44,7 +44,7 @@ pub fn group_refusal_frame(group: u16) -> Frame
     Frame {
         sequence: 1,
         status: 77,
-        group: group,
+        group,
         counter: 0,
     }
 }
@@ -56,7 +56,7 @@ pub fn confirm_frame(counter: u16) -> Frame
         sequence: 2,
         status: 0,
         group: 0,
-        counter: counter,
+        counter,
     }
 }
 
@@ -134,7 +134,7 @@ pub fn say_frames(frames: Frames) -> Said
 {
     Said {
         event: Event::None,
-        frames: frames,
+        frames,
         afresh: 0,
         refused: false,
     }
@@ -145,7 +145,7 @@ fn say_event(event: Event) -> Said
     ensures { result ≡ saying_event event }
 {
     Said {
-        event: event,
+        event,
         frames: Frames::None,
         afresh: 0,
         refused: false,
@@ -221,11 +221,11 @@ pub fn form_pair(
     form_run(&mut s[RUN..at], w, group, theirs, clock);
     supersede_link(&mut s[at..end], w);
     octets::put8(s, USED, 1);
-    octets::put6(s, ADDRESS, address);
+    octets::put_array(s, ADDRESS, address);
     Said {
         event: Event::None,
-        frames: frames,
-        afresh: afresh,
+        frames,
+        afresh,
         refused: false,
     }
 }

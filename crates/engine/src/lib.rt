@@ -224,16 +224,6 @@ fn admit_frame(
     message::read(settings.listed(), body).ok_or(Refusal::Body)
 }
 
-// The expected token, which has 32 octets.
-fn token_of(expected: &[u8]) -> [u8; 32]
-    requires { length expected.now ≡ 32 }
-    ensures { result ≡ expected.now }
-{
-    let mut a = [0u8; 32];
-    octets::copy_out(expected, 0, &mut a[..]);
-    a
-}
-
 // The rule for a frame, in a slot.
 fn frame_at(t: &mut [u8], k: usize, h: Header, g: Given, v: View, body: &[u8], fresh: &[u8]) -> Said
     requires { Held t.old h (Some k) × (Stocks h fresh.now × (Clocked g.clock h × Fitting h body.now v)) }
@@ -303,7 +293,7 @@ pub fn receive(
     let entrance = table::enter(t, address)?;
     let h = entrance.header;
     let view = admit_frame(h, body, fresh, expected, verdict)?;
-    let token = token_of(expected);
+    let token = octets::take(expected, 0);
     let g = given_of(h, address, time, token, verdict == 1);
     hear(t, h, entrance.slot, g, view, body, fresh)
 }

@@ -56,7 +56,7 @@ fn initial_header(s: Settings, own: [u8; 6], n: u16) -> Header
             good: 0,
         },
         spare: 0,
-        own: own,
+        own,
         settings: s,
     }
 }

@@ -1,5 +1,9 @@
 -- Laws of the lookups: what each function's cases show of their definitions.
 use Rattle.std.proofs.Common.{◌≡◌, ℕ, ◌+◌, ◌-◌, ◌%◌, ◌^◌, ◌<◌, ◌≤◌, Bool, true, false, List, refl, ap, ◌∙◌, add-one, arith, Ok, Err, Option, Some, None, Result}
+use Rattle.std.specs.Prelude.{ltb, min}
+use mathlib.Core.Logic.{inl, inr}
+use Rattle.octets.proofs.Scan.{cases}
+use borrow.Author.Tests.{ltb-true, ltb-false}
 use Rattle.record.specs.declared.Header.{Header}
 use Rattle.record.specs.declared.Peer.{Peer}
 use Rattle.rules.specs.Book.{due, ◌isnt◌}
@@ -78,3 +82,10 @@ module _ (t a : List ℕ) where
       offset_at w ew n en =
           let z : w ≡ width_of t = width-told t r.header w E.looked.header ew in
           rw here (ap Ok (en ∙ ap (λ (W : ℕ). record_at W k) z))
+
+-- the lesser of two, as std has it
+pub min-lesser : (a b : ℕ) → min a b ≡ lesser a b
+min-lesser a b = elim (cases (ltb b a)) [
+  | inl p ↦ let h : b < a = ltb-true _ _ p in rw p (omega arith)
+  | inr p ↦ let h : a ≤ b = ltb-false _ _ p in rw p (omega arith)
+]

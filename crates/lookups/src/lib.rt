@@ -5,7 +5,7 @@ ghost use Rattle.std.specs.Prelude.{◌≡◌, ◌≤◌, length};
 ghost use Rattle.groups.specs.Groups.{width};
 ghost use Rattle.record.specs.Layout.{decode_peer, record_size};
 ghost use Rattle.table.specs.Table.{decode_table, slot, Reaches, Reached};
-ghost use Rattle.lookups.specs.Lookups.{time_left, left_if, lesser, peer_left, least_below, asks_deadline, asks_offset, asks_good};
+ghost use Rattle.lookups.specs.Lookups.{time_left, left_if, peer_left, least_below, asks_deadline, asks_offset, asks_good};
 
 use causes::Refusal;
 use record::HEADER;
@@ -38,16 +38,6 @@ fn left_if(counts: bool, time: u32, at: u32) -> u32
     time_left(time, at)
 }
 
-// The lesser of two, tested as the definition has it: the clause of std's `min` has a function of its own.
-fn lesser_of(a: u32, b: u32) -> u32
-    ensures { result ≡ lesser a b }
-{
-    if b < a {
-        return b;
-    }
-    a
-}
-
 // The time left until the earlier deadline of a record: t0 counts only with a run, t1 only with a link.
 fn peer_left(s: &[u8], w: usize, time: u32) -> u32
     requires { (length s.now ≡ record_size w) × (w ≤ width) }
@@ -59,7 +49,7 @@ fn peer_left(s: &[u8], w: usize, time: u32) -> u32
     let t1 = record::t1_of(s, w);
     let run = left_if(state != 0, time, t0);
     let link = left_if(finished != 0, time, t1);
-    lesser_of(run, link)
+    run.min(link)
 }
 
 fn left_at(t: &[u8], w: usize, k: usize, time: u32) -> u32
@@ -78,8 +68,7 @@ fn left_below(t: &[u8], w: usize, n: usize, time: u32) -> u32
 {
     let mut least = NO_DEADLINE;
     for k in 0..n {
-        let left = left_at(t, w, k, time);
-        least = lesser_of(least, left);
+        least = least.min(left_at(t, w, k, time));
     }
     least
 }

@@ -4,13 +4,12 @@ use mathlib.Core.Path.{◌≡◌, refl, sym, ap, ◌∙◌, subst}
 use mathlib.Core.List.{List}
 use Prim.Native.Nat.{ℕ, ◌≤◌}
 use native.Mathlib.Omega.{arith}
-use native.Mathlib.Nat.{zero-add}
 use lib.Dec.{lit≤}
-use lib.ListN.{length, take, replicate, length-take}
-use Rattle.octets.specs.Octets.{part, put}
+use lib.ListN.{length, take, length-take}
+use Rattle.octets.specs.Octets.{part}
 use mathlib.Core.Bool.{Bool, true, false}
 use Rattle.groups.specs.Groups.{width, listed, commit_length, stored, Storable}
-use Rattle.groups.proofs.Laws.{drop-zeros, storable-short, storable-none}
+use Rattle.groups.proofs.Laws.{storable-short, storable-none}
 use Rattle.frame.specs.Frame.{read_body, token_of, commit_of}
 use Rattle.frame.specs.declared.Body.{Body}
 use Rattle.frame.specs.declared.Body.TheVariants as body
@@ -18,7 +17,7 @@ use Rattle.frame.proofs.Laws.{commit-short}
 use Rattle.frame.proofs.Shapes.{headed, commit-shape, token-request-shape}
 use Rattle.frame.proofs.RoundTrip.{commit-length-read}
 use Rattle.message.specs.declared.View.{View}
-use Rattle.message.specs.View.{view_of, view, read_view, stored_token, commit_in, message}
+use Rattle.message.specs.View.{view_of, view, read_view, commit_in, message}
 
 -- the shape that a body is of
 pub view-law : (B y : Body) (r : View) → B ≡ y → r ≡ view_of (Some y) → r ≡ view_of (Some B)
@@ -119,11 +118,7 @@ module _ (gs s u : List ℕ) (n : ℕ) (e : read_body gs s ≡ Some (body.Confir
   unfolding message view token_of part commit_in
   confirm-message = rw (e, f)
 
--- [0; 256] filled with a token
-pub token-law : (token r : List ℕ) → r ≡ put (replicate 256 0) 0 token → r ≡ stored_token token
-unfolding stored_token put
-token-law token r e = e ∙ rw (zero-add, drop-zeros 256 (length token)) refl
-
+-- a token that was read has room
 pub token-short : (s r : List ℕ) (n : ℕ) → n ≤ 256 → r ≡ token_of s n → length r ≤ 256
 unfolding token_of part
 token-short s r n h e = rw (e, length-take) (omega arith)

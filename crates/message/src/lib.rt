@@ -70,23 +70,13 @@ pub fn read(groups: &[u16], body: &[u8]) -> Option<View>
     Some(view_of(b))
 }
 
-// A token as it is stored: [0; 256] filled with it.
-fn stored_token(token: &[u8]) -> [u8; 256]
-    requires { length token.now ≤ 256 }
-    ensures { result ≡ stored_token token.now }
-{
-    let mut a = [0u8; 256];
-    octets::copy_in(&mut a[..], 0, token);
-    a
-}
-
-// The token of a body that was read, as it is stored.
+// The token of a body that was read, as it is stored: [0; 256] filled with it.
 pub fn token(body: &[u8], v: View) -> [u8; 256]
     requires { v.toklen ≤ 256 }
     ensures { result ≡ (message_of body.now v).token }
 {
     let n = v.toklen as usize;
-    stored_token(frame::token_of(body, n))
+    octets::filled(frame::token_of(body, n))
 }
 
 // The scalar and the element of a body that was read, where they lie, if it is a supported Commit; of any other body no octets.

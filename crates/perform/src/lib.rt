@@ -40,7 +40,7 @@ fn start(s: &mut [u8], w: usize, address: [u8; 6], group: u16, own: &[u8], clock
     let at = record::link_at(w);
     start_run(&mut s[RUN..at], w, group, own, clock);
     octets::put8(s, USED, 1);
-    octets::put6(s, ADDRESS, address);
+    octets::put_array(s, ADDRESS, address);
     let commit = acts::commit_frame(group);
     Said {
         event: Event::None,
@@ -245,7 +245,7 @@ fn store_token(r: &mut [u8], w: usize, toklen: u16, token: [u8; 256])
 {
     let at = record::run_token_at(w);
     octets::put16(r, TOKLEN, toklen);
-    octets::put256(r, at, token);
+    octets::put_array(r, at, token);
 }
 
 // "store the token, send Commit with it", a Repeat: where that gives up, the run is cleared, and the token with it.

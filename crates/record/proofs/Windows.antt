@@ -4,9 +4,7 @@ use mathlib.Core.List.{List, [], ◌∷◌}
 use Prim.Native.Nat.{ℕ, zero, suc, ◌+◌, ◌-◌, ◌≤◌, ◌<◌}
 use native.Mathlib.Omega.{arith}
 use lib.Dec.{lit<}
-use lib.ListN.{length, take, drop, get_or, set, replicate, length-replicate, get_or-replicate}
-use native.Mathlib.Decide.{ℕ_discrete}
-use lib.Seq.{get_or-set_same, get_or-set_other, ext_get_or}
+use lib.ListN.{length, take, drop, get_or, set, replicate}
 use borrow.Rule.Slice.PartMut.{put_mid}
 use Rattle.octets.specs.Octets.{part, put, num, oct}
 use Rattle.octets.proofs.Laws.{length_part, part-part, part-put, part-put-before, part-put-after, length-oct, length-put, num-oct, mid-put}
@@ -217,14 +215,3 @@ no-link-left W n w e = rw e (no-link-at W w)
 
 pub no-peer-left : (W n : ℕ) → W ≤ width → n ≡ record_size W → decode_peer W (replicate n 0) ≡ no_peer
 no-peer-left W n w e = rw e (no-peer-at W w)
-
--- ---- zeros
-
-pub zero_more : (s : List ℕ) (i : ℕ) → i < length s → ((k : ℕ) → k < i → get_or s k 0 ≡ 0) → (k : ℕ) → k < i + 1 → get_or (set s i 0) k 0 ≡ 0
-zero_more s i l h k m = elim (ℕ_discrete k i) [
-  | yes q ↦ rw q (get_or-set_same s i 0 0 l)
-  | no d ↦ get_or-set_other s i k 0 0 d ∙ h k (omega arith)
-]
-
-pub zeros_law : (s : List ℕ) (n i : ℕ) → length s ≡ n → length s ≤ i → ((k : ℕ) → k < i → get_or s k 0 ≡ 0) → s ≡ replicate n 0
-zeros_law s n i l h z = ext_get_or 0 s (replicate n 0) (l ∙ sym (length-replicate n 0)) (λ k m. z k (omega arith) ∙ sym (get_or-replicate n k 0 0 (omega arith)))

@@ -159,7 +159,7 @@ fn in_use_ok(s: &[u8], w: usize, own: [u8; 6], groups: &[u16], high: u8) -> bool
     let run = run_ok(&s[RUN..at], w, groups, high);
     let link = link_ok(&s[at..end], w, groups, high);
     let used = octets::get8(s, USED);
-    let address = octets::take6(s, ADDRESS);
+    let address = octets::take(s, ADDRESS);
     let state = octets::get8(s, RUN + STATE);
     let finished = octets::get8(s, at + FINISHED);
     let usable = soundness::is_usable(own, address);

@@ -3,12 +3,14 @@ use mathlib.Core.Path.{◌≡◌, refl, sym, ap, ◌∙◌}
 use mathlib.Core.Logic.{◌⊎◌, inl, inr}
 use mathlib.Core.Bool.{Bool, true, false, not, ◌&&◌, ◌||◌}
 use mathlib.Core.List.{List}
-use Prim.Native.Nat.{ℕ, ◌+◌, ◌≤◌, ◌<◌}
+use Prim.Native.Nat.{ℕ, zero, suc, ◌+◌, ◌≤◌, ◌<◌}
 use native.Mathlib.Omega.{arith}
 use native.Mathlib.Numerals.{add-one}
 use native.Mathlib.Decide.{ℕ_discrete}
 use lib.Dec.{eqb}
-use lib.ListN.{length, get_or, set}
+use lib.ListN.{length, take, get_or, set, length-take}
+use Rattle.std.proofs.lemmas.List.{get_or-take}
+use Rattle.std.specs.List.{list_all, range_with_len}
 use lib.Seq.{get_or-set_same, get_or-set_other}
 use borrow.Author.Tests.{eq-eqb, ne_eqb}
 use Rattle.octets.specs.Octets.{num, same_address}
@@ -104,3 +106,36 @@ new-law keys k j x any e d h l p =
     twice : (b : Bool) → not (not b) ≡ b
     twice true = refl
     twice false = refl
+
+-- the keys before are those that are looked at
+pub keys-before : (keys : List ℕ) (k j x : ℕ) (any : Bool) → j < length (take k keys) → any ≡ not (all_below (λ i. not (eqb (get_or keys i 0) x)) j)
+    → (any || eqb (get_or (take k keys) j 0) x) ≡ not (all_below (λ i. not (eqb (get_or keys i 0) x)) (j + 1))
+keys-before keys k j x any h p =
+    let m : length (take k keys) ≤ k = simp length-take (omega arith) in
+    let e : get_or (take k keys) j 0 ≡ get_or keys j 0 = get_or-take k keys j 0 (omega arith) in
+    rw e (any-more (λ i. not (eqb (get_or keys i 0) x)) j any (eqb (get_or keys j 0) x) p refl)
+
+-- a test of every number below a bound, one after the other from the first
+all-first : (f : ℕ → Bool) (n : ℕ) → (f 0 && all_below (λ k. f (suc k)) n) ≡ all_below f (suc n)
+unfolding all_below
+all-first f zero = swap (f 0)
+  where
+    swap : (a : Bool) → (a && true) ≡ (true && a)
+    swap true = refl
+    swap false = refl
+all-first f (suc n) = assoc (f 0) (all_below (λ k. f (suc k)) n) (f (suc n)) ∙ ap (λ (b : Bool). b && f (suc n)) (all-first f n)
+  where
+    assoc : (a b c : Bool) → (a && (b && c)) ≡ ((a && b) && c)
+    assoc true b c = refl
+    assoc false b c = refl
+
+all-from : (f : ℕ → Bool) (a n : ℕ) → list_all f (range_with_len a n) ≡ all_below (λ k. f (a + k)) n
+unfolding all_below
+all-from f a zero = refl
+all-from f a (suc n) =
+    let e : a + 0 ≡ a = omega arith in
+    let g : all_below (λ k. f (a + 1 + k)) n ≡ all_below (λ k. f (a + suc k)) n = all-ext _ _ n (λ k h. let q : a + 1 + k ≡ a + suc k = omega arith in ap f q) in
+    ap (λ (b : Bool). f a && b) (all-from f (a + 1) n ∙ g) ∙ ap (λ (m : ℕ). f m && all_below (λ k. f (a + suc k)) n) (sym e) ∙ all-first (λ k. f (a + k)) n
+
+pub all-range : (f : ℕ → Bool) (n : ℕ) → list_all f (range_with_len 0 n) ≡ all_below f n
+all-range f n = all-from f 0 n ∙ all-ext _ _ n (λ k h. let q : 0 + k ≡ k = omega arith in ap f q)

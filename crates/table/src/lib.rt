@@ -43,7 +43,7 @@ pub fn address_at(t: &[u8], w: usize, k: usize) -> [u8; 6]
     ensures { result ≡ (slot (decode_table t.now) k).address }
 {
     let a = record::record_at(w, k);
-    octets::take6(t, a + ADDRESS)
+    octets::take(t, a + ADDRESS)
 }
 
 // The address of a slot's record, as one number.
@@ -117,7 +117,7 @@ fn free_below(t: &[u8], w: usize, n: usize) -> Option<usize>
     None
 }
 
-// The counts over the slots below n, in one pass.
+// The counts over the slots below n. A loop and no chain: the three are counted in one pass.
 pub fn counts_below(t: &[u8], w: usize, n: usize) -> Counts
     requires { Reaches t.now w n × (n ≤ 64) }
     ensures { (result.used ≡ count_below (λ k. in_use (slot (decode_table t.now) k)) n) × ((result.opened ≡ count_below (λ k. is_open (slot (decode_table t.now) k)) n) × (result.good ≡ count_below (λ k. is_good (slot (decode_table t.now) k)) n)) }
@@ -125,12 +125,10 @@ pub fn counts_below(t: &[u8], w: usize, n: usize) -> Counts
     let mut used: usize = 0;
     let mut opened: usize = 0;
     let mut good: usize = 0;
-    let mut i = 0;
-    while i < n {
-        used += octets::one_if(is_used(t, w, i));
-        opened += octets::one_if(is_open(t, w, i));
-        good += octets::one_if(is_good(t, w, i));
-        i += 1;
+    for k in 0..n {
+        used += octets::one_if(is_used(t, w, k));
+        opened += octets::one_if(is_open(t, w, k));
+        good += octets::one_if(is_good(t, w, k));
     }
     Counts {
         used: used as u16,
@@ -155,15 +153,7 @@ fn slots_ok(t: &[u8], w: usize, n: usize, own: [u8; 6], groups: &[u16], high: u8
     requires { Reaches t.now w n × ((1 ≤ length groups.now) × (length groups.now ≤ 8)) }
     ensures { result ≡ all_below (λ k. peer_ok own groups.now high (slot (decode_table t.now) k)) n }
 {
-    let mut i = 0;
-    while i < n {
-        if slot_ok(t, w, i, own, groups, high) {
-            i += 1;
-        } else {
-            return false;
-        }
-    }
-    true
+    (0..n).all(|k| slot_ok(t, w, k, own, groups, high))
 }
 
 // One above the number of a slot's address, 0 where it is free.
@@ -178,20 +168,17 @@ fn key_at(t: &[u8], w: usize, k: usize) -> u64
     0
 }
 
-// The keys of the first n slots, side by side.
+// The keys of the first n slots, side by side; what is lent may have room for more.
 fn fill_keys(t: &[u8], w: usize, n: usize, keys: &mut [u64])
     requires { Reaches t.now w n × (n ≤ length keys.old) }
     ensures { (k : ℕ) → k < n → get_or keys.new k 0 ≡ key (slot (decode_table t.now) k) }
 {
-    let mut i = 0;
-    while i < n {
-        let x = key_at(t, w, i);
-        keys[i] = x;
-        i += 1;
+    for k in 0..n {
+        keys[k] = key_at(t, w, k);
     }
 }
 
-// No key before is the same: all are compared, with no early way out. A free slot's key is compared with none.
+// No key before is the same. A loop and no `contains`: all are compared, with no early way out. A free slot's key is compared with none.
 fn is_new(keys: &[u64], k: usize) -> bool
     requires { k < length keys.now }
     ensures { result ≡ new_key keys.now k }
@@ -201,10 +188,8 @@ fn is_new(keys: &[u64], k: usize) -> bool
         return true;
     }
     let mut any = false;
-    let mut j = 0;
-    while j < k {
-        any = any | (keys[j] == x);
-        j += 1;
+    for key in &keys[..k] {
+        any |= *key == x;
     }
     !any
 }
@@ -213,15 +198,7 @@ fn all_new(keys: &[u64], n: usize) -> bool
     requires { n ≤ length keys.now }
     ensures { result ≡ all_below (new_key keys.now) n }
 {
-    let mut i = 0;
-    while i < n {
-        if is_new(keys, i) {
-            i += 1;
-        } else {
-            return false;
-        }
-    }
-    true
+    (0..n).all(|k| is_new(keys, k))
 }
 
 // The addresses of the slots in use differ; their keys are laid out in what is lent.
@@ -369,11 +346,7 @@ pub fn standing_of(t: &[u8], w: usize, k: usize) -> Standing
     let used = is_used(t, w, k);
     let opened = is_open(t, w, k);
     let good = is_good(t, w, k);
-    Standing {
-        used: used,
-        opened: opened,
-        good: good,
-    }
+    Standing { used, opened, good }
 }
 
 // A count that loses one record's share and takes another's.
@@ -395,11 +368,7 @@ fn counts_after(t: &[u8], k: usize, h: Header, was: Standing) -> Counts
     let used = moved(h.counts.used, was.used, is_used(t, w, k));
     let opened = moved(h.counts.opened, was.opened, is_open(t, w, k));
     let good = moved(h.counts.good, was.good, is_good(t, w, k));
-    Counts {
-        used: used,
-        opened: opened,
-        good: good,
-    }
+    Counts { used, opened, good }
 }
 
 // The counts are made true once the record of a slot was changed where it lies.

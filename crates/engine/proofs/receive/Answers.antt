@@ -1,17 +1,17 @@
-use Rattle.std.proofs.Common.{ap, sym, ◌∙◌}
+use Rattle.std.proofs.Common.{ap, sym, ◌∙◌, arith}
 use Rattle.causes.proofs.Laws.{handed-on}
 use Rattle.table.proofs.Laws.{enters, enters-refused}
 use Rattle.answers.specs.Answers.{told}
 use Rattle.engine.proofs.Headers.{entered-held, held-header, held-places}
-use Rattle.engine.proofs.Frames.{receive-unentered, receive-refused, receive-goes, receive-went, frame-fitting, given-brought}
+use Rattle.engine.proofs.Frames.{token-all, receive-unentered, receive-refused, receive-goes, receive-went, frame-fitting, given-brought}
 use Rattle.engine.proofs.receive.Goals as goal
 
 pub admit_frame-requires : goal.admit_frame-requires
 admit_frame-requires c =
     let H = entered-held _ _ c.in_ok-entrance.entrance (enters _ _ _ (sym c.enter.ensures ∙ c.in_ok-entrance.was)) in (held-header _ _ _ H, held-places _ c.in_ok-entrance.entrance.header _ H)
 
-pub token_of-token-requires : goal.token_of-token-requires
-token_of-token-requires c = (receive-goes _ _ _ _ _ _ c.in_ok-entrance.entrance (enters _ _ _ (sym c.enter.ensures ∙ c.in_ok-entrance.was)) _ c.admit_frame.ensures _ c.in_ok-view.was).token
+pub take-token-requires : goal.take-token-requires
+take-token-requires c = let G = receive-goes _ _ _ _ _ _ c.in_ok-entrance.entrance (enters _ _ _ (sym c.enter.ensures ∙ c.in_ok-entrance.was)) _ c.admit_frame.ensures _ c.in_ok-view.was in (omega arith, omega (arith, G.token))
 
 pub hear-requires : goal.hear-requires
 hear-requires c =
@@ -22,7 +22,7 @@ hear-requires c =
 
 pub returns : goal.returns
 returns c =
-    receive-went _ _ c.args.time _ _ _ _ _ c.in_ok-entrance.entrance (enters _ _ _ (sym c.enter.ensures ∙ c.in_ok-entrance.was)) _ c.admit_frame.ensures _ c.in_ok-view.was _ _ _ c.token_of-token.ensures c.given_of-g.ensures
+    receive-went _ _ c.args.time _ _ _ _ _ c.in_ok-entrance.entrance (enters _ _ _ (sym c.enter.ensures ∙ c.in_ok-entrance.was)) _ c.admit_frame.ensures _ c.in_ok-view.was _ _ _ (token-all _ _ (receive-goes _ _ _ _ _ _ c.in_ok-entrance.entrance (enters _ _ _ (sym c.enter.ensures ∙ c.in_ok-entrance.was)) _ c.admit_frame.ensures _ c.in_ok-view.was).token c.take-token.ensures) c.given_of-g.ensures
     c.hear.ensures
 
 pub returns-in_err-entrance : goal.returns-in_err-entrance

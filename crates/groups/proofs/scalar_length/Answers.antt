@@ -1,20 +1,21 @@
 use native.Mathlib.Omega.{arith}
-use borrow.Author.Tests.{eq-eqb, ne_eqb}
+use mathlib.Core.Path.{refl}
+use borrow.Author.Rules.{rules}
 use Rattle.groups.specs.Groups.{scalar_length}
 use Rattle.groups.proofs.scalar_length.Goals as goal
 
-pub returns-then-group-eq19 : goal.returns-then-group-eq19
+pub returns-in-19 : goal.returns-in-19
 unfolding scalar_length
-returns-then-group-eq19 c = (simp (eq-eqb _ _ c.if-group-eq19.true), omega arith)
+returns-in-19 c = (rw c.in-19.is refl, omega arith)
 
-pub returns-then-group-eq20 : goal.returns-then-group-eq20
+pub returns-in-20 : goal.returns-in-20
 unfolding scalar_length
-returns-then-group-eq20 c = (simp (ne_eqb _ _ c.if-group-eq19.false, eq-eqb _ _ c.if-group-eq20.true), omega arith)
+returns-in-20 c = (rw c.in-20.is refl, omega arith)
 
-pub returns-then-group-eq21 : goal.returns-then-group-eq21
+pub returns-in-21 : goal.returns-in-21
 unfolding scalar_length
-returns-then-group-eq21 c = (simp (ne_eqb _ _ c.if-group-eq19.false, ne_eqb _ _ c.if-group-eq20.false, eq-eqb _ _ c.if-group-eq21.true), omega arith)
+returns-in-21 c = (rw c.in-21.is refl, omega arith)
 
-pub returns : goal.returns
+pub returns-in_default : goal.returns-in_default
 unfolding scalar_length
-returns c = (simp (ne_eqb _ _ c.if-group-eq19.false, ne_eqb _ _ c.if-group-eq20.false, ne_eqb _ _ c.if-group-eq21.false), omega arith)
+returns-in_default c = (search rules, omega arith)

@@ -5,6 +5,5 @@ use Rattle.lookups.specs.Lookups.{peer_left}
 use Rattle.lookups.proofs.left_at.Goals as goal
 
 pub returns : goal.returns
-returns c = let s = c in
-    c.peer_left.ensures
-    ∙ ap (λ (p : Peer). peer_left p s.args.time) (window-law s.args.t.now s.args.w s.args.k _ s.requires c.record_at-a.ensures _ c.record_size.ensures)
+returns c = c.peer_left.ensures
+    ∙ ap (λ (p : Peer). peer_left p c.args.time) (window-law c.args.t.now c.args.w c.args.k _ c.requires c.record_at-a.ensures _ c.record_size.ensures)

@@ -1,15 +1,16 @@
 use Rattle.table.proofs.Laws.{reach}
-use Rattle.lookups.proofs.Laws.{least-none, least_more, least-through}
+use Rattle.std.proofs.Common.{rules, ◌∙◌}
+use Rattle.lookups.proofs.Laws.{least-none, least_more, least-through, min-lesser}
 use Rattle.lookups.proofs.left_below.Goals as goal
 
 pub loop-k-init : goal.loop-k-init
-loop-k-init c = least-none _
+loop-k-init c = (search rules, least-none _)
 
-pub left_at-left-requires : goal.left_at-left-requires
-left_at-left-requires c = reach c.args.t.now c.args.w c.args.n _ c.requires c.loop-k-test.true
+pub left_at-requires : goal.left_at-requires
+left_at-requires c = reach c.args.t.now c.args.w c.args.n c.loop-k.k c.requires c.loop-k-test.true
 
 pub loop-k-preserved : goal.loop-k-preserved
-loop-k-preserved c = least_more _ _ _ _ _ c.loop-k.invariant c.left_at-left.ensures c.lesser_of-least.ensures
+loop-k-preserved c = (search rules, least_more _ _ _ _ _ c.loop-k.invariant.1 c.left_at.ensures (c.min-least.ensures ∙ min-lesser _ _))
 
 pub returns : goal.returns
-returns c = least-through _ _ _ _ c.loop-k.auto.k-end c.loop-k-test.false c.loop-k.invariant
+returns c = least-through _ _ _ _ c.loop-k.invariant.0 c.loop-k-test.false c.loop-k.invariant.1

@@ -17,6 +17,6 @@ returns c = let fit : length c.args.h.own ≡ 6 = search rules in let chain : c.
       c.put16.ensures,
       c.put8-2.ensures,
       c.put8.ensures,
-      c.put6.ensures,
+      c.put_array.ensures,
     ) in
     chain ∙ store-back-law c.args.s.now c.args.h c.requires fit

@@ -1,16 +1,11 @@
-use borrow.Author.Rules.{rules}
-use Rattle.octets.proofs.Scan.{all_none, all_more, all-broke, all-through}
-use mathlib.Core.Path.{sym, ◌∙◌}
+use Rattle.std.proofs.Common.{rules, tests, refl, ◌∙◌, arith}
+use Rattle.std.proofs.lemmas.Iterator.{YieldsList-from_range}
+use Rattle.std.proofs.lemmas.Iterator.Search.{all_from_yields_List}
+use Rattle.table.specs.Table.{new_key}
+use Rattle.table.proofs.Keys.{all-range}
 use Rattle.table.proofs.all_new.Goals as goal
 
-pub loop-i-init : goal.loop-i-init
-loop-i-init c = (search rules, all_none _)
-
-pub loop-i-preserved : goal.loop-i-preserved
-loop-i-preserved c = (search rules, all_more _ _ c.loop-i.invariant.1 (sym c.is_new.ensures ∙ c.if-is_new.true))
-
-pub returns-else-is_new : goal.returns-else-is_new
-returns-else-is_new c = all-broke _ _ _ c.loop-i-test.true (sym c.is_new.ensures ∙ c.if-is_new.false)
-
 pub returns : goal.returns
-returns c = all-through _ _ _ c.loop-i.invariant.0 c.loop-i-test.false c.loop-i.invariant.1
+returns c =
+    let k = c.args.keys.now in
+    all_from_yields_List (new_key k) _ _ c.all.result c.all.ensures.ran (YieldsList-from_range 0 c.args.n c.args.n refl (omega arith)) (λ x b q k. search (rules, tests)) ∙ all-range (new_key k) c.args.n

@@ -1,20 +1,17 @@
+use Rattle.std.proofs.Common.{ℕ, rules, tests, refl, ◌∙◌, arith}
+use Rattle.std.proofs.lemmas.Iterator.{YieldsList-from_range}
+use Rattle.std.proofs.lemmas.Iterator.Search.{all_from_yields_List}
+use Rattle.soundness.specs.Soundness.{peer_ok}
+use Rattle.table.specs.Table.{decode_table, slot}
+use Rattle.std.proofs.iter.Serving.{serving}
 use Rattle.table.proofs.Laws.{reach}
-use borrow.Author.Rules.{rules}
-use Rattle.octets.proofs.Scan.{all_none, all_more, all-broke, all-through}
-use mathlib.Core.Path.{sym, ◌∙◌}
+use Rattle.table.proofs.Keys.{all-range}
 use Rattle.table.proofs.slots_ok.Goals as goal
 
-pub loop-i-init : goal.loop-i-init
-loop-i-init c = (search rules, all_none _)
-
-pub slot_ok-requires : goal.slot_ok-requires
-slot_ok-requires c = (reach c.args.t.now c.args.w c.args.n c.loop-i.i c.requires.0 c.loop-i-test.true, c.requires.1)
-
-pub loop-i-preserved : goal.loop-i-preserved
-loop-i-preserved c = (search rules, all_more _ _ c.loop-i.invariant.1 (sym c.slot_ok.ensures ∙ c.if-slot_ok.true))
-
-pub returns-else-slot_ok : goal.returns-else-slot_ok
-returns-else-slot_ok c = all-broke _ _ _ c.loop-i-test.true (sym c.slot_ok.ensures ∙ c.if-slot_ok.false)
+pub all-requires-clause-callable : goal.all-requires-clause-callable
+all-requires-clause-callable c = grind (serving, reach)
 
 pub returns : goal.returns
-returns c = all-through _ _ _ c.loop-i.invariant.0 c.loop-i-test.false c.loop-i.invariant.1
+returns c = let a = c.args in
+    let f = λ (k : ℕ). peer_ok a.own a.groups.now a.high (slot (decode_table a.t.now) k) in
+    all_from_yields_List f _ _ c.all.result c.all.ensures.ran (YieldsList-from_range 0 a.n a.n refl (omega arith)) (λ x b q k. search (rules, tests)) ∙ all-range f a.n

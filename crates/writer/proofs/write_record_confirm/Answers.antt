@@ -4,18 +4,14 @@ use Rattle.writer.proofs.Laws.{confirm-run, confirm-early, confirm-link, confirm
 use Rattle.writer.proofs.write_record_confirm.Goals as goal
 
 pub returns-then-state-eq2 : goal.returns-then-state-eq2
-returns-then-state-eq2 c = let k = c in
-    confirm-run (decode_peer k.args.w k.args.s.now) _ _ _ c.state_of-state.ensures _ _ _ c.if-state-eq2.true c.sc_of-sc.ensures c.write_confirm.ensures
+returns-then-state-eq2 c = confirm-run (decode_peer c.args.w c.args.s.now) _ _ _ c.state_of-state.ensures _ _ _ c.if-state-eq2.true c.sc_of-sc.ensures c.write_confirm.ensures
 
 pub returns-then-state-ne0 : goal.returns-then-state-ne0
-returns-then-state-ne0 c = let k = c in
-    confirm-early (decode_peer k.args.w k.args.s.now) _ _ _ c.state_of-state.ensures c.if-state-eq2.false c.if-state-ne0.true
+returns-then-state-ne0 c = confirm-early (decode_peer c.args.w c.args.s.now) _ _ _ c.state_of-state.ensures c.if-state-eq2.false c.if-state-ne0.true
 
 pub returns-then-finished-ne0 : goal.returns-then-finished-ne0
-returns-then-finished-ne0 c = let k = c in
-    confirm-link (decode_peer k.args.w k.args.s.now) _ _ _ c.state_of-state.ensures c.if-state-ne0.false _ c.finished_of-finished.ensures _ _
+returns-then-finished-ne0 c = confirm-link (decode_peer c.args.w c.args.s.now) _ _ _ c.state_of-state.ensures c.if-state-ne0.false _ c.finished_of-finished.ensures _ _
     c.if-finished-ne0.true c.write_confirm-then-finished-ne0.ensures
 
 pub returns : goal.returns
-returns c = let k = c in
-    confirm-none (decode_peer k.args.w k.args.s.now) _ _ _ c.state_of-state.ensures c.if-state-ne0.false _ c.finished_of-finished.ensures c.if-finished-ne0.false
+returns c = confirm-none (decode_peer c.args.w c.args.s.now) _ _ _ c.state_of-state.ensures c.if-state-ne0.false _ c.finished_of-finished.ensures c.if-finished-ne0.false

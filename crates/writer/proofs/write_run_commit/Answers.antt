@@ -8,24 +8,20 @@ use Rattle.writer.proofs.Laws.{token-held, own_held, commit-none, commit-run}
 use Rattle.writer.proofs.write_run_commit.Goals as goal
 
 pub returns-then-state-eq0 : goal.returns-then-state-eq0
-returns-then-state-eq0 c = let k = c in
-    commit-none _ (decode_peer k.args.w k.args.s.now) _ _ c.state_of-state.ensures c.if-state-eq0.true
+returns-then-state-eq0 c = commit-none _ (decode_peer c.args.w c.args.s.now) _ _ c.state_of-state.ensures c.if-state-eq0.true
 
 pub slice_bounds-write_commit-end : goal.slice_bounds-write_commit-end
-slice_bounds-write_commit-end c = let k = c in
-    sym (length-take-le _ _ (token-held k.args.s.now k.args.w k.requires _ c.state_of-state.ensures c.if-state-eq0.false _ _
+slice_bounds-write_commit-end c = sym (length-take-le _ _ (token-held c.args.s.now c.args.w c.requires _ c.state_of-state.ensures c.if-state-eq0.false _ _
     c.toklen_of-m.ensures c.token_of-token.ensures))
 
 pub slice_bounds-write_commit-end-2 : goal.slice_bounds-write_commit-end-2
-slice_bounds-write_commit-end-2 c = let own-in : c.commit_length-l.result ≤ length c.own_of-own.result.now = let k = c in
-    own_held k.args.s.now k.args.w k.requires _ c.state_of-state.ensures c.if-state-eq0.false _ _
+slice_bounds-write_commit-end-2 c = let own-in : c.commit_length-l.result ≤ length c.own_of-own.result.now = own_held c.args.s.now c.args.w c.requires _ c.state_of-state.ensures c.if-state-eq0.false _ _
     c.own_of-own.result.now c.group_of-group.ensures c.commit_length-l.ensures.0 c.own_of-own.ensures.0 in sym (length-take-le _ _ own-in)
 
 pub returns : goal.returns
 returns c = let own-in : c.commit_length-l.result ≤ length c.own_of-own.result.now = let k = c in
     own_held k.args.s.now k.args.w k.requires _ c.state_of-state.ensures c.if-state-eq0.false _ _
     c.own_of-own.result.now c.group_of-group.ensures c.commit_length-l.ensures.0 c.own_of-own.ensures.0 in let k = c in
-    let l = c in
-    commit-run _ (decode_peer k.args.w k.args.s.now) _ _ l.state_of-state.ensures _ _ _ _ _ _ _ l.if-state-eq0.false
-    l.group_of-group.ensures l.toklen_of-m.ensures l.token_of-token.ensures l.commit_length-l.ensures.0 own-in l.own_of-own.ensures.1
+    commit-run _ (decode_peer k.args.w k.args.s.now) _ _ c.state_of-state.ensures _ _ _ _ _ _ _ c.if-state-eq0.false
+    c.group_of-group.ensures c.toklen_of-m.ensures c.token_of-token.ensures c.commit_length-l.ensures.0 own-in c.own_of-own.ensures.1
     c.write_commit.ensures
