@@ -2,10 +2,12 @@
 #![tactic(auto)]
 
 ghost use Rattle.std.specs.Prelude.{◌≡◌, ◌≤◌, length};
-ghost use Rattle.groups.specs.Groups.{width, stored};
-ghost use Rattle.message.specs.View.{commit_view, confirm_view, view_of, view, stored_token, message_of};
+ghost use Rattle.message.specs.View.{commit_view, confirm_view, view_of, view, stored_token};
+
+mod received;
 
 use frame::Body;
+pub use received::Heard;
 
 // A body by its numbers: sequence (1 Commit, 2 Confirm, 0 not of the shapes), status, group, counter, whether the group is supported, and the
 // length of its token. What a body of its kind does not have is zero.
@@ -85,25 +87,4 @@ fn stored_token(token: &[u8]) -> [u8; 256]
     let mut a = [0u8; 256];
     octets::copy_in(&mut a[..], 0, token);
     a
-}
-
-// The token of a body that was read, as it is stored.
-pub fn token(body: &[u8], v: View) -> [u8; 256]
-    requires { v.toklen ≤ 256 }
-    ensures { result ≡ (message_of body.now v).token }
-{
-    let n = v.toklen as usize;
-    stored_token(frame::token_of(body, n))
-}
-
-// The scalar and the element of a body that was read, where they lie, if it is a supported Commit; of any other body no octets.
-pub fn commit(body: &[u8], v: View) -> &[u8]
-    ensures { (length result.now ≤ width) × (stored result.now ≡ (message_of body.now v).commit) }
-{
-    let listed = v.listed;
-    if listed {
-        let n = v.toklen as usize;
-        return frame::commit_of(body, v.group, n);
-    }
-    &body[..0]
 }
