@@ -12,4 +12,4 @@ returns c = let d = c in
     let j = i in
     let k = j in
     accept-law _ _ j.link_at-at.ensures _ _ k.requires.0 f.copy_within.ensures _ _ _ _ _ _ _ _ k.requires.1 i.record_size-end.ensures (search rules) (search rules)
-    h.sync_of-sync.ensures g.group_of-group.ensures e.finish_link.ensures d.clear.ensures c.say_event.ensures
+    h.sync-sync.ensures g.group-group.ensures e.finish_link.ensures d.clear.ensures c.say_event.ensures
