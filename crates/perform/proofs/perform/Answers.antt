@@ -3,12 +3,12 @@ use Rattle.perform.proofs.Performs.{did-drop, did-refuse-group, did-ask-token, d
 use Rattle.perform.proofs.perform.Goals as goal
 
 pub resend_both-requires : goal.resend_both-requires
-resend_both-requires c = let d = c in let k = d in (k.requires.0.record_is, k.requires.1.resend d.in-ResendBoth.is)
+resend_both-requires c = let d = c in let k = d in (k.requires.0, k.requires.1.resend d.in-ResendBoth.is)
 
 pub hear_again-requires : goal.hear_again-requires
 hear_again-requires c = let d = c in
     let k = d in
-    let r = k.requires.0.record_is in (r.size, (r.most, omega (arith, r.paced.few, k.requires.1.hear d.in-HearAgain.is)))
+    let r = k.requires.0 in (r.size, (r.most, omega (arith, r.paced.few, k.requires.1.hear d.in-HearAgain.is)))
 
 pub returns-in-Drop : goal.returns-in-Drop
 returns-in-Drop c = let d = c in did-drop _ _ _ _ _ _ _ d.in-Drop.is c.say_frames.ensures

@@ -6,4 +6,4 @@ returns c = let d = c in
     let e = d in
     let f = e in
     let g = f in
-    repeat-commit-law _ _ _ _ _ _ _ _ g.group_of-group.ensures f.sc_of-sc.ensures e.commit_frame-commit.ensures d.retransmit.ensures
+    repeat-commit-law _ _ _ _ _ _ _ _ g.group-group.ensures f.sc-sc.ensures e.commit_frame-commit.ensures d.retransmit.ensures

@@ -5,4 +5,4 @@ pub returns : goal.returns
 returns c = let d = c in
     let e = d in
     let f = e in
-    repeat-refusal-law _ _ _ _ _ _ _ _ f.sc_of-sc.ensures e.group_refusal_frame-refusal.ensures d.retransmit.ensures
+    repeat-refusal-law _ _ _ _ _ _ _ _ f.sc-sc.ensures e.group_refusal_frame-refusal.ensures d.retransmit.ensures

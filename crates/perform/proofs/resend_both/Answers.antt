@@ -8,4 +8,4 @@ returns c = let d = c in
     let g = f in
     let h = g in
     let i = h in
-    resend-law _ _ _ _ _ _ _ _ _ _ i.group_of-group.ensures h.sync_of-sync.ensures g.sc_of-sc.ensures f.commit_frame-commit.ensures e.confirm_frame-confirm.ensures d.send_counted.ensures
+    resend-law _ _ _ _ _ _ _ _ _ _ i.group-group.ensures h.sync-sync.ensures g.sc-sc.ensures f.commit_frame-commit.ensures e.confirm_frame-confirm.ensures d.send_counted.ensures

@@ -2,10 +2,7 @@ use Rattle.perform.proofs.Switches.{switch-room, switch-law, switch-none}
 use Rattle.perform.proofs.switch_group.Goals as goal
 
 pub fresh_at-own-requires : goal.fresh_at-own-requires
-fresh_at-own-requires c = let d = c in
-    let e = d in
-    let k = e in
-    let q = k.requires.1 in (q.wide, switch-room _ _ _ _ _ _ _ e.first_left.ensures d.in-Group.is q.each)
+fresh_at-own-requires c = switch-room _ _ _ _ _ c.first_left.ensures c.in-Group.is
 
 pub returns-in-Group : goal.returns-in-Group
 returns-in-Group c = let d = c in
@@ -16,7 +13,7 @@ returns-in-Group c = let d = c in
     let i = h in
     let j = i in
     let l = j in
-    switch-law _ _ _ _ _ _ _ _ _ _ _ _ _ _ _ l.group_of-ours.ensures j.rejected_of-before.ensures i.index_of-i.ensures.0 h.marked_with-rejected.ensures g.first_left.ensures f.in-Group.is
+    switch-law _ _ _ _ _ _ _ _ _ _ _ _ _ _ _ l.group-ours.ensures j.rejected-before.ensures i.index_of-i.ensures.0 h.marked_with-rejected.ensures g.first_left.ensures f.in-Group.is
     e.fresh_at-own.ensures.1 d.switch_to.ensures
 
 pub returns-in-None : goal.returns-in-None
@@ -27,5 +24,5 @@ returns-in-None c = let d = c in
     let h = g in
     let i = h in
     let j = i in
-    switch-none _ _ _ _ _ _ _ _ _ _ _ _ j.group_of-ours.ensures i.rejected_of-before.ensures h.index_of-i.ensures.0 g.marked_with-rejected.ensures f.first_left.ensures e.in-None.is
+    switch-none _ _ _ _ _ _ _ _ _ _ _ _ j.group-ours.ensures i.rejected-before.ensures h.index_of-i.ensures.0 g.marked_with-rejected.ensures f.first_left.ensures e.in-None.is
     d.abandon.ensures
