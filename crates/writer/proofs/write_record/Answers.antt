@@ -1,6 +1,6 @@
 -- `writer::write_record` meets its contract: each branch by its law of Laws.
 use Rattle.table.specs.Table.{Reached}
-use Rattle.writer.proofs.Laws.{share, listed-are, at-sound, at-header, at-reached, at-bounded, record-unsound, record-unusable, record-absent, record-drawn}
+use Rattle.writer.proofs.Laws.{share, listed-are, at-sound, at-header, at-reached, at-whole, at-bounded, record-unsound, record-unusable, record-absent, record-drawn}
 use borrow.Author.Rules.{rules}
 use Rattle.writer.proofs.write_record.Goals as goal
 
@@ -18,8 +18,15 @@ pub slice_bounds-write_peer-end : goal.slice_bounds-write_peer-end
 slice_bounds-write_peer-end c = let e = c.enter-e in
     listed-are _ (at-sound _ _ _ e.ensures _ c.in-At.is) e.result.header (at-header _ _ _ e.ensures _ c.in-At.is)
 
-pub slice_bounds-write_peer-end-in-At : goal.slice_bounds-write_peer-end-in-At
-slice_bounds-write_peer-end-in-At c = let in_table : Reached c.args.t.now c.width_of-w.result c.in-At.k = at-reached _ _ _ c.enter-e.ensures _ c.in-At.is _ c.width_of-w.ensures in search (rules, in_table.long)
+pub slice_bounds-peer-end : goal.slice_bounds-peer-end
+slice_bounds-peer-end c = let in_table : Reached c.args.t.now c.width_of-w.result c.in-At.k = at-reached _ _ _ c.enter-e.ensures _ c.in-At.is _ c.width_of-w.ensures in search (rules, in_table.long)
+
+pub invariant_of-peer : goal.invariant_of-peer
+invariant_of-peer c = let e = c.enter-e in
+    record {
+      most = c.width_of-w.ensures.1;
+      whole = at-whole _ _ _ e.ensures _ c.in-At.is _ c.width_of-w.ensures _ _ c.record_at-a.ensures c.record_size.ensures;
+    }
 
 pub write_peer-written-requires : goal.write_peer-written-requires
 write_peer-written-requires c = let e = c.enter-e in

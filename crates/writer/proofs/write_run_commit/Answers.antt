@@ -3,29 +3,30 @@ use mathlib.Core.Path.{sym}
 use Prim.Native.Nat.{◌≤◌}
 use lib.ListN.{length}
 use lib.Seq.{length-take-le}
-use Rattle.record.specs.Layout.{decode_peer}
+use Rattle.record.specs.Reading.{peer_in}
+use borrow.Author.Rules.{rules}
 use Rattle.writer.proofs.Laws.{token-held, own_held, commit-none, commit-run}
 use Rattle.writer.proofs.write_run_commit.Goals as goal
 
 pub returns-then-state-eq0 : goal.returns-then-state-eq0
 returns-then-state-eq0 c = let k = c in
-    commit-none _ (decode_peer k.args.w k.args.s.now) _ _ c.state_of-state.ensures c.if-state-eq0.true
+    commit-none _ (peer_in k.args.peer.now) _ _ c.state-state.ensures c.if-state-eq0.true
 
 pub slice_bounds-write_commit-end : goal.slice_bounds-write_commit-end
 slice_bounds-write_commit-end c = let k = c in
-    sym (length-take-le _ _ (token-held k.args.s.now k.args.w k.requires _ c.state_of-state.ensures c.if-state-eq0.false _ _
-    c.toklen_of-m.ensures c.token_of-token.ensures))
+    sym (length-take-le _ _ (token-held k.args.peer.now.octets.now k.args.peer.now.width (search rules) k.requires _ c.state-state.ensures c.if-state-eq0.false _ _
+    c.toklen-m.ensures c.token-token.ensures))
 
 pub slice_bounds-write_commit-end-2 : goal.slice_bounds-write_commit-end-2
-slice_bounds-write_commit-end-2 c = let own-in : c.commit_length-l.result ≤ length c.own_of-own.result.now = let k = c in
-    own_held k.args.s.now k.args.w k.requires _ c.state_of-state.ensures c.if-state-eq0.false _ _
-    c.own_of-own.result.now c.group_of-group.ensures c.commit_length-l.ensures.0 c.own_of-own.ensures.0 in sym (length-take-le _ _ own-in)
+slice_bounds-write_commit-end-2 c = let own-in : c.commit_length-l.result ≤ length c.own-own.result.now = let k = c in
+    own_held k.args.peer.now.octets.now k.args.peer.now.width (search rules) k.requires _ c.state-state.ensures c.if-state-eq0.false _ _
+    c.own-own.result.now c.group-group.ensures c.commit_length-l.ensures.0 c.own-own.ensures.0 in sym (length-take-le _ _ own-in)
 
 pub returns : goal.returns
-returns c = let own-in : c.commit_length-l.result ≤ length c.own_of-own.result.now = let k = c in
-    own_held k.args.s.now k.args.w k.requires _ c.state_of-state.ensures c.if-state-eq0.false _ _
-    c.own_of-own.result.now c.group_of-group.ensures c.commit_length-l.ensures.0 c.own_of-own.ensures.0 in let k = c in
+returns c = let own-in : c.commit_length-l.result ≤ length c.own-own.result.now = let k = c in
+    own_held k.args.peer.now.octets.now k.args.peer.now.width (search rules) k.requires _ c.state-state.ensures c.if-state-eq0.false _ _
+    c.own-own.result.now c.group-group.ensures c.commit_length-l.ensures.0 c.own-own.ensures.0 in let k = c in
     let l = c in
-    commit-run _ (decode_peer k.args.w k.args.s.now) _ _ l.state_of-state.ensures _ _ _ _ _ _ _ l.if-state-eq0.false
-    l.group_of-group.ensures l.toklen_of-m.ensures l.token_of-token.ensures l.commit_length-l.ensures.0 own-in l.own_of-own.ensures.1
+    commit-run _ (peer_in k.args.peer.now) _ _ l.state-state.ensures _ _ _ _ _ _ _ l.if-state-eq0.false
+    l.group-group.ensures l.toklen-m.ensures l.token-token.ensures l.commit_length-l.ensures.0 own-in l.own-own.ensures.1
     c.write_commit.ensures
