@@ -13,7 +13,7 @@ use Rattle.std.specs.Prelude.{if◌then◌else◌}
 use Rattle.octets.proofs.Scan.{clash}
 use Rattle.octets.specs.declared.Found.{Found}
 use Rattle.octets.specs.declared.Found.TheVariants as found
-use Rattle.groups.specs.Groups.{Storable, fresh_of, fresh_ok}
+use Rattle.groups.specs.Groups.{Storable, fresh_ok}
 use Rattle.record.specs.declared.Header.{Header}
 use Rattle.record.specs.Layout.{groups_of, width_in, decode_peer, no_peer}
 use Rattle.soundness.specs.Soundness.{header_ok}
@@ -26,7 +26,7 @@ use Rattle.table.specs.declared.Entry.TheVariants as entry-is
 use Rattle.rules.specs.declared.Given.{Given}
 use Rattle.rules.specs.Message.{Message}
 use Rattle.rules.specs.declared.Said.{Said}
-use Rattle.rules.specs.Book.{◌is◌, Terms, Step, on_frame}
+use Rattle.rules.specs.Book.{◌is◌, Terms, Call, Step, on_frame}
 use Rattle.rules.specs.Given.{terms, call}
 use Rattle.rules.specs.Said.{Does, saying}
 use Rattle.rule_laws.proofs.Slots.{frame-seated}
@@ -42,7 +42,7 @@ use Rattle.answers.specs.Answers.{Leaves, ends, refuse, seating, refused, said, 
 use Rattle.answers.proofs.Laws.{clashed, turned-refused, turned-go}
 use Rattle.calls.specs.Calls.{terms_of, clock_of, brings, fresh_in, admit_frame, frame_turn, frame_step, receives}
 use Rattle.engine.specs.declared.Admitted.{Admitted}
-use Rattle.engine.specs.InSlot.{Held, Met, Listing, Stocks, Fitting, is_unsound, is_unusable, found_in, given_by, slotless, Brought, refused_frame, AdmitsFrame, TakesFrame, DoesAt, answers_outside}
+use Rattle.engine.specs.InSlot.{Held, Met, Listing, Stocks, is_unsound, is_unusable, found_in, given_by, slotless, Brought, refused_frame, AdmitsFrame, TakesFrame, DoesAt, answers_outside}
 use Rattle.engine.proofs.Headers.{enters-met}
 use Rattle.engine.proofs.Windows.{look-seat, seat-done}
 use Rattle.engine.proofs.Starts.{seat-none, seated-terms, unseated-terms, brought, stock-tested, stocks}
@@ -235,10 +235,10 @@ module _ (s : Step) (a : List ℕ) (x : Said) (r : Answer) (e : x ≡ saying s) 
       go true i = let y : ◌≡◌ {A = ℕ} 0 1 = cc in absurd (omega arith)
       go false i = refl
 
--- the rule on a free record says what the step of the free record says, with the header's width
-pub outside-says : (h : Header) (g : Given) (m : Message) (w : ℕ) (fresh s left : List ℕ) (x : Said) → w ≡ width_in h → decode_peer w s ≡ no_peer
-    → Does w x left (on_frame (terms g (groups_of h)) (call g (fresh_of w fresh)) (decode_peer w s) m) → x ≡ saying (on_frame (terms g (groups_of h)) (call g (fresh_in h fresh)) no_peer m)
-outside-says h g m w fresh s left x ew e d = d.says ∙ (λ i. saying (on_frame (terms g (groups_of h)) (call g (fresh_of (ew i) fresh)) (e i) m))
+-- the rule on a free record says what the step of the free record says
+pub outside-says : (t : Terms) (c : Call) (m : Message) (w : ℕ) (s left : List ℕ) (x : Said) → decode_peer w s ≡ no_peer
+    → Does w x left (on_frame t c (decode_peer w s) m) → x ≡ saying (on_frame t c no_peer m)
+outside-says t c m w s left x e d = d.says ∙ (λ i. saying (on_frame t c (e i) m))
 
 -- no slot: the table stays
 outside-leaves : (t : List ℕ) (f : Found) (s : Step) (a : List ℕ) (r : Answer) → Bytes t → sound t ≡ true → seating (decode_table t) f ≡ found.Nothing → r ≡ answers_outside s a → Leaves r t (finishes t f s a)
@@ -249,16 +249,16 @@ outside-leaves t f s a r b w e z = subst (λ (g : Found). Leaves r t (if s.refus
     go true q = record { answer = q; table = refl }
     go false q = record { answer = q; table = sym (recounted-again t b w) }
 
-module _ (t : List ℕ) (h : Header) (f : Found) (H : Held t h f) (g : Given) (B : Brought g h) (m : Message) (fresh : List (List ℕ)) (r : Answer) where
+module _ (t : List ℕ) (h : Header) (f : Found) (H : Held t h f) (g : Given) (B : Brought g h) (m : Message) (gs : List ℕ) (eg : gs ≡ groups_of h) (fresh : List (List ℕ)) (r : Answer) where
   -- in the slot
   pub hear-seated : (k : ℕ) (j : Found) (u v : List ℕ) (x : Said) → Bytes t → j ≡ seating (decode_table t) f → j ≡ found.At k
-      → DoesAt x u t k (on_frame (terms g (groups_of h)) (call g fresh) (slot (decode_table t) k) m) → (r ≡ answered x g.address) × (v ≡ encode_table (recounted (decode_table u)))
+      → DoesAt x u t k (on_frame (terms g gs) (call g fresh) (slot (decode_table t) k) m) → (r ≡ answered x g.address) × (v ≡ encode_table (recounted (decode_table u)))
       → Leaves r v (finishes t f (on_frame (terms_of (decode_table t) f) (call g fresh) (look_by (decode_table t) f) m) g.address)
   hear-seated k j u v x b p q d w =
       let e : seating (decode_table t) f ≡ found.At k = sym p ∙ q in
       let T = seated-terms g h (decode_table t) f k H.header B e in
       let P = look-seat t f k b H.seated e in
-      seat-done t f k u v g.address x _ _ r e (frame-seated _ _ _ m (ap (λ (y : Terms). y.full) (sym T) ∙ B.full)) (λ i. on_frame (sym T i) (call g fresh) (P i) m) d w
+      seat-done t f k u v g.address x _ _ r e (frame-seated _ _ _ m (ap (λ (y : Terms). y.full) (sym T) ∙ B.full)) ((λ i. on_frame (sym T i) (call g fresh) (P i) m) ∙ (λ i. on_frame (terms g (sym eg i)) (call g fresh) (slot (decode_table t) k) m)) d w
 
   -- without one
   look_none : seating (decode_table t) f ≡ found.Nothing → look_by (decode_table t) f ≡ no_peer
@@ -266,13 +266,14 @@ module _ (t : List ℕ) (h : Header) (f : Found) (H : Held t h f) (g : Given) (B
   look_none e = ap (look_by (decode_table t)) (seat-none (decode_table t) f e).0
 
   pub hear-unseated : (j : Found) (y : Given) → Bytes t → j ≡ seating (decode_table t) f → j ≡ found.Nothing → y ≡ slotless g
-      → r ≡ answers_outside (on_frame (terms y (groups_of h)) (call y fresh) no_peer m) y.address
+      → r ≡ answers_outside (on_frame (terms y gs) (call y fresh) no_peer m) y.address
       → Leaves r t (finishes t f (on_frame (terms_of (decode_table t) f) (call g fresh) (look_by (decode_table t) f) m) g.address)
   hear-unseated j y b p q ey z =
       let e : seating (decode_table t) f ≡ found.Nothing = sym p ∙ q in
       let T = unseated-terms g h (decode_table t) f H.header B e in
       outside-leaves t f _ g.address r b H.seated.whole e
-      (z ∙ ap (λ (i : Given). answers_outside (on_frame (terms i (groups_of h)) (call i fresh) no_peer m) i.address) ey
+      (z ∙ ap (λ (l : List ℕ). answers_outside (on_frame (terms y l) (call y fresh) no_peer m) y.address) eg
+      ∙ ap (λ (i : Given). answers_outside (on_frame (terms i (groups_of h)) (call i fresh) no_peer m) i.address) ey
       ∙ (λ i. answers_outside (on_frame (T i) (call g fresh) (sym (look_none e) i) m) g.address))
 
 -- the step of the call
@@ -286,15 +287,13 @@ frame_is t f a time frame fresh expected token verdict h w g eh ew et eg =
     ap (λ (x : Given). call x (fresh_in h fresh)) eg ∙ (λ i. brings a (clock_of (eh i) time) (fresh_in (eh i) fresh) (et i) (verdict is 1)) in
     λ i. on_frame (terms_of (decode_table t) f) (C i) (look_by (decode_table t) f) (message_of frame (W i))
 
--- the frame as it was read
-pub frame-fitting : (h : Header) (frame : List ℕ) (w : View) → header_ok h ≡ true → w ≡ view (groups_of h) frame → w.toklen ≤ 256 → Fitting h frame w
+-- the commit of a frame as it was read is stored with the table's width without loss
+pub frame-storable : (h : Header) (frame : List ℕ) (v : View) (w : ℕ) → header_ok h ≡ true → v ≡ view (groups_of h) frame → w ≡ width_in h → Storable w (message_of frame v).commit
 unfolding message
-frame-fitting h frame w ok e l =
+frame-storable h frame v w ok e ew =
     let R = header-room h ok in
-    record {
-      token = l;
-      commit = subst (λ (x : View). Storable (width_in h) (message_of frame x).commit) (sym e) (message-storable (width_in h) (groups_of h) frame R.most R.each);
-    }
+    subst (λ (W : ℕ). Storable W (message_of frame v).commit) (sym ew)
+    (subst (λ (x : View). Storable (width_in h) (message_of frame x).commit) (sym e) (message-storable (width_in h) (groups_of h) frame R.most R.each))
 
 -- what a call brings
 pub given-brought : (h : Header) (a : List ℕ) (time : ℕ) (expected : List ℕ) (v : Bool) (g : Given) → g ≡ given_by h a time expected v → Brought g h
@@ -314,12 +313,14 @@ module _ (t a : List ℕ) (time : ℕ) (frame fresh expected : List ℕ) (verdic
   unfolding receives
   receive-refused c q z = turned-refused _ _ t a A.turn turn_is r c q z
 
-  pub receive-went : (f : Found) (token : List ℕ) (g : Given) (u : List ℕ) → A.turn ≡ Go f → token ≡ expected → g ≡ given_by e.header a time token (verdict is 1)
-      → Leaves r u (finishes t f (on_frame (terms_of (decode_table t) f) (call g (fresh_in e.header fresh)) (look_by (decode_table t) f) (message_of frame A.view)) g.address) → Leaves r u (receives t a time frame fresh expected verdict)
+  pub receive-went : (f : Found) (token : List ℕ) (g : Given) (cs : List (List ℕ)) (u : List ℕ) → A.turn ≡ Go f → token ≡ expected → g ≡ given_by e.header a time token (verdict is 1)
+      → cs ≡ fresh_in e.header fresh
+      → Leaves r u (finishes t f (on_frame (terms_of (decode_table t) f) (call g cs) (look_by (decode_table t) f) (message_of frame A.view)) g.address) → Leaves r u (receives t a time frame fresh expected verdict)
   unfolding receives
-  receive-went f token g u q et eg l =
+  receive-went f token g cs u q et eg ec l =
       let G = receive-goes t a frame fresh expected verdict e E A K f q in
-      let S = frame_is t f a time frame fresh expected token verdict e.header A.view g G.held.header (K.view f q) et eg in
+      let M = λ (v : List (List ℕ)). on_frame (terms_of (decode_table t) f) (call g v) (look_by (decode_table t) f) (message_of frame A.view) in
+      let S = ap M ec ∙ frame_is t f a time frame fresh expected token verdict e.header A.view g G.held.header (K.view f q) et eg in
       let L : Leaves r u (finishes t f (frame_step (decode_table t) f a time frame fresh expected verdict) a) = subst (λ (x : List ℕ). Leaves r u (finishes t f (frame_step (decode_table t) f a time frame fresh expected verdict) x)) (ap (λ (x : Given). x.address) eg)
       (subst (λ (x : Step). Leaves r u (finishes t f x g.address)) S l) in
       turned-go _ _ t a A.turn turn_is r f _ u q refl L

@@ -5,21 +5,23 @@
 ghost use Rattle.std.specs.Prelude.{◌≡◌, [], length, true};
 ghost use Rattle.octets.specs.Scan.{first_below};
 ghost use Rattle.octets.specs.declared.Found.TheVariants.{At};
+ghost use Rattle.groups.specs.Stocked.{commits_in};
 ghost use Rattle.record.specs.Layout.{width_in, groups_of, no_peer};
 ghost use Rattle.soundness.specs.Soundness.{header_ok};
 ghost use Rattle.table.specs.Table.{decode_table, slot, look_by, Reaches, Reached, Sized};
 ghost use Rattle.rules.specs.Book.{expired, on_start, on_frame, on_clock};
-ghost use Rattle.rules.specs.Given.{terms, call};
-ghost use Rattle.message.specs.View.{message_of};
+ghost use Rattle.rules.specs.Given.{terms, call, Paced};
+ghost use Rattle.message.specs.Received.{message_in, terms_in, call_in};
 ghost use Rattle.answers.specs.Answers.{Leaves, finishes};
 ghost use Rattle.initial.specs.Initial.{made};
-ghost use Rattle.calls.specs.Calls.{terms_of, crowded, clock_of, fresh_in, initializes, admit_start, start_turn, start_step, initiates, kill_step, kills, receives, due_slot, clock_step, expires};
-ghost use Rattle.engine.specs.InSlot.{Held, Met, Stocks, Fitting, Listing, is_unsound, is_unusable, found_in, given_by, slotless, Clocked, Brought, refused_frame, AdmitsFrame, TakesFrame, DoesAt, answers_outside};
+ghost use Rattle.calls.specs.Calls.{terms_of, crowded, clock_of, initializes, admit_start, start_turn, start_step, initiates, kill_step, kills, receives, due_slot, clock_step, expires};
+ghost use Rattle.engine.specs.InSlot.{Held, Met, Stocks, Lists, Listing, is_unsound, is_unusable, found_in, given_by, slotless, Clocked, Brought, refused_frame, AdmitsFrame, TakesFrame, DoesAt, answers_outside};
 
 use answers::{Answer, Refusal, Turn};
-use message::View;
+use groups::Stock;
+use message::{Heard, View};
 use octets::Found;
-use record::{Header, Settings, WIDE_RECORD};
+use record::{Header, Record, Settings, WIDE_RECORD};
 use rules::{Clock, Frames, Given, Said};
 use table::Entry;
 
@@ -95,6 +97,21 @@ fn without_slot(g: Given) -> Given
     }
 }
 
+// The stock that a call brings, for the header's groups.
+fn stock_of<'a>(h: &'a Header, fresh: &'a [u8]) -> Stock<'a>
+    requires { Stocks h.now fresh.now }
+    ensures { (result.fresh.now ≡ fresh.now) × Lists result h.now }
+{
+    let n = h.settings.count as usize;
+    let w = record::width_of(*h);
+    let groups = &h.settings.groups[..n];
+    Stock {
+        groups: groups,
+        fresh: fresh,
+        width: w,
+    }
+}
+
 // ---- Start
 
 // The state of the run that a call is about; 0 where the address has no record.
@@ -140,17 +157,15 @@ fn start_turn(t: &[u8], h: Header, entry: Entry, fresh: &[u8]) -> Turn
     }
 }
 
-// The rule for a start, in a slot.
-fn start_at(t: &mut [u8], k: usize, h: Header, g: Given, fresh: &[u8]) -> Said
-    requires { Held t.old h (At k) × (Stocks h fresh.now × Clocked g.clock h) }
-    ensures { DoesAt result t.new t.old k (on_start (terms g (groups_of h)) (call g (fresh_in h fresh.now)) (slot (decode_table t.old) k)) }
+// The rule for a start, in a slot. The clauses speak of the table's header, h.
+fn start_at(t: &mut [u8], k: usize, h: Header, g: Given, stock: &Stock) -> Said
+    requires { Held t.old h (At k) × (Lists stock.now h × Clocked g.clock h) }
+    ensures { DoesAt result t.new t.old k (on_start (terms g stock.now.groups.now) (call g (commits_in stock.now)) (slot (decode_table t.old) k)) }
 {
-    let list = h.settings.groups;
-    let n = h.settings.count as usize;
-    let w = record::width_of(h);
+    let w = stock.width;
     let a = record::record_at(w, k);
     let e = a + record::record_size(w);
-    machine::on_start(&mut t[a..e], w, g, &list[..n], fresh)
+    machine::on_start(&mut t[a..e], g, stock)
 }
 
 // A start that causes 2, 3, 4 and 8 do not refuse. Cause 9.
@@ -165,7 +180,8 @@ fn start(t: &mut [u8], h: Header, f: Found, address: [u8; 6], time: u32, fresh: 
             let was = table::standing_of(t, w, k);
             let none = [0u8; 32];
             let g = given_of(h, address, time, none, false);
-            let said = start_at(t, k, h, g, fresh);
+            let stock = stock_of(&h, fresh);
+            let said = start_at(t, k, h, g, &stock);
             answers::finish_at(t, k, h, was, said, address)
         }
         Found::Nothing => answers::refuse_with(Refusal::Full),
@@ -346,31 +362,27 @@ fn token_of(expected: &[u8]) -> [u8; 32]
     a
 }
 
-// The rule for a frame, in a slot.
-fn frame_at(t: &mut [u8], k: usize, h: Header, g: Given, v: View, body: &[u8], fresh: &[u8]) -> Said
-    requires { Held t.old h (At k) × (Stocks h fresh.now × (Clocked g.clock h × Fitting h body.now v)) }
-    ensures { DoesAt result t.new t.old k (on_frame (terms g (groups_of h)) (call g (fresh_in h fresh.now)) (slot (decode_table t.old) k) (message_of body.now v)) }
+// The rule for a frame, in a slot. The clauses speak of the table's header, h.
+fn frame_at(t: &mut [u8], k: usize, h: Header, heard: &Heard) -> Said
+    requires { Held t.old h (At k) × (Lists heard.now.stock h × Clocked heard.now.given.clock h) }
+    ensures { DoesAt result t.new t.old k (on_frame (terms_in heard.now) (call_in heard.now) (slot (decode_table t.old) k) (message_in heard.now)) }
 {
-    let list = h.settings.groups;
-    let n = h.settings.count as usize;
-    let w = record::width_of(h);
+    let w = heard.stock.width;
     let a = record::record_at(w, k);
     let e = a + record::record_size(w);
-    machine::on_frame(&mut t[a..e], w, g, v, body, &list[..n], fresh)
+    machine::on_frame(&mut t[a..e], heard)
 }
 
 // No slot is free for a new peer: the rule works on a free record outside the table.
-fn hear_outside(h: Header, g: Given, v: View, body: &[u8], fresh: &[u8]) -> Answer
-    requires { Stocks h fresh.now × (Clocked g.clock h × Fitting h body.now v) }
-    ensures { result ≡ answers_outside (on_frame (terms g (groups_of h)) (call g (fresh_in h fresh.now)) no_peer (message_of body.now v)) g.address }
+fn hear_outside(heard: &Heard) -> Answer
+    requires { Paced heard.now.given.clock }
+    ensures { result ≡ answers_outside (on_frame (terms_in heard.now) (call_in heard.now) no_peer (message_in heard.now)) heard.now.given.address }
 {
-    let list = h.settings.groups;
-    let n = h.settings.count as usize;
-    let address = g.address;
-    let w = record::width_of(h);
+    let address = heard.given.address;
+    let w = heard.stock.width;
     let size = record::record_size(w);
     let mut s = [0u8; MOST];
-    let said = machine::on_frame(&mut s[..size], w, g, v, body, &list[..n], fresh);
+    let said = machine::on_frame(&mut s[..size], heard);
     if said.refused {
         return answers::refuse_with(Refusal::Full);
     }
@@ -378,22 +390,28 @@ fn hear_outside(h: Header, g: Given, v: View, body: &[u8], fresh: &[u8]) -> Answ
 }
 
 // A frame that causes 2 to 7 do not refuse. Cause 9.
-fn hear(t: &mut [u8], h: Header, f: Found, g: Given, v: View, body: &[u8], fresh: &[u8]) -> Answer
-    requires { Held t.old h f × (Stocks h fresh.now × (Brought g h × Fitting h body.now v)) }
-    ensures { Leaves result t.new (finishes t.old f (on_frame (terms_of (decode_table t.old) f) (call g (fresh_in h fresh.now)) (look_by (decode_table t.old) f) (message_of body.now v)) g.address) }
+fn hear(t: &mut [u8], h: Header, f: Found, heard: &Heard) -> Answer
+    requires { Held t.old h f × (Lists heard.now.stock h × Brought heard.now.given h) }
+    ensures { Leaves result t.new (finishes t.old f (on_frame (terms_of (decode_table t.old) f) (call_in heard.now) (look_by (decode_table t.old) f) (message_in heard.now)) heard.now.given.address) }
 {
     let n = h.geometry.slots as usize;
-    let w = record::width_of(h);
+    let w = heard.stock.width;
     match answers::seat_of(t, w, n, f) {
         Found::At(k) => {
             let was = table::standing_of(t, w, k);
-            let said = frame_at(t, k, h, g, v, body, fresh);
-            let address = g.address;
+            let said = frame_at(t, k, h, heard);
+            let address = heard.given.address;
             answers::finish_at(t, k, h, was, said, address)
         }
         Found::Nothing => {
-            let slotless = without_slot(g);
-            hear_outside(h, slotless, v, body, fresh)
+            let slotless = without_slot(heard.given);
+            let outside = Heard {
+                given: slotless,
+                view: heard.view,
+                body: heard.body,
+                stock: heard.stock,
+            };
+            hear_outside(&outside)
         }
     }
 }
@@ -421,7 +439,14 @@ pub fn receive(
         Turn::Go(f) => {
             let token = token_of(expected);
             let g = given_of(h, address, time, token, verdict == 1);
-            hear(t, h, f, g, view, body, fresh)
+            let stock = stock_of(&h, fresh);
+            let heard = Heard {
+                given: g,
+                view: view,
+                body: body,
+                stock: stock,
+            };
+            hear(t, h, f, &heard)
         }
     }
 }
@@ -434,7 +459,11 @@ fn is_expired_at(t: &[u8], w: usize, k: usize, time: u32) -> bool
 {
     let a = record::record_at(w, k);
     let e = a + record::record_size(w);
-    deadlines::is_expired(&t[a..e], w, time)
+    let peer = Record {
+        octets: &t[a..e],
+        width: w,
+    };
+    deadlines::is_expired(&peer, time)
 }
 
 fn due_below(t: &[u8], w: usize, n: usize, time: u32) -> Found

@@ -1,47 +1,40 @@
-use Prim.Native.Nat.{ℕ}
+use Prim.Native.Nat.{ℕ, ◌≤◌}
 use native.Mathlib.Omega.{arith}
-use Rattle.groups.specs.Groups.{fresh_of}
-use Rattle.message.specs.View.{message_of}
+use Rattle.groups.specs.Groups.{width}
+use Rattle.message.specs.Received.{message_in, terms_in, call_in}
 use Rattle.record.specs.declared.Peer.{Peer}
-use Rattle.record.specs.Layout.{groups_of}
 use Rattle.rules.specs.Book.{on_frame}
-use Rattle.rules.specs.Given.{terms, call}
-use Rattle.engine.proofs.Headers.{held-header, held-reached, count_fits, listed-count, window-whole, ready}
+use Rattle.engine.proofs.Headers.{held-reached, window-whole}
 use Rattle.engine.proofs.Windows.{at-step}
 use borrow.Author.Rules.{rules}
 use Rattle.engine.proofs.frame_at.Goals as goal
 
 pub record_at-a-requires : goal.record_at-a-requires
 record_at-a-requires c = let k = c in
-    let R = held-reached _ k.args.h _ k.requires.0 _ c.width_of-w.ensures in
-    (R.most, omega (arith, R.long))
+    let most : k.args.heard.now.stock.width ≤ width = search rules in
+    (most, omega (arith, (held-reached _ k.args.h _ k.requires.0 _ (k.requires.1.0.width, most)).long))
 
 pub overflow_add-e : goal.overflow_add-e
 overflow_add-e c = let k = c in
-    omega (arith, (held-reached _ k.args.h _ k.requires.0 _ c.width_of-w.ensures).long)
+    let most : k.args.heard.now.stock.width ≤ width = search rules in
+    omega (arith, (held-reached _ k.args.h _ k.requires.0 _ (k.requires.1.0.width, most)).long)
 
 pub slice_bounds-on_frame-end : goal.slice_bounds-on_frame-end
 slice_bounds-on_frame-end c = let k = c in
-    omega (arith, (held-reached _ k.args.h _ k.requires.0 _ c.width_of-w.ensures).long)
-
-pub slice_bounds-list-end : goal.slice_bounds-list-end
-slice_bounds-list-end c = let k = c in
-    count_fits k.args.h (held-header _ _ _ k.requires.0) k.requires.1.0.places
-
-pub slice_bounds-on_frame-end-2 : goal.slice_bounds-on_frame-end-2
-slice_bounds-on_frame-end-2 c = let k = c in
-    listed-count k.args.h (held-header _ _ _ k.requires.0) k.requires.1.0.places
+    let most : k.args.heard.now.stock.width ≤ width = search rules in
+    omega (arith, (held-reached _ k.args.h _ k.requires.0 _ (k.requires.1.0.width, most)).long)
 
 pub on_frame-requires : goal.on_frame-requires
 on_frame-requires c = let k = c in
-    ready k.args.g.clock _ _ k.args.h _ k.args.body.now k.args.v c.width_of-w.ensures.0
-    (window-whole _ k.args.h _ k.requires.0 _ c.width_of-w.ensures
+    let most : k.args.heard.now.stock.width ≤ width = search rules in
+    window-whole _ k.args.h _ k.requires.0 _ (k.requires.1.0.width, most)
     _ _ c.record_at-a.ensures c.record_size.ensures
-    k.args.g.clock (λ i. search rules) k.requires.1.1.0) k.requires.1.0 k.requires.1.1.1
+    k.args.heard.now.given.clock (λ i. search rules) k.requires.1.1
 
 pub returns : goal.returns
 returns c = let k = c in
-    at-step k.args.t.now k.args.h k.args.k k.requires.0 _ c.width_of-w.ensures
+    let most : k.args.heard.now.stock.width ≤ width = search rules in
+    at-step k.args.t.now k.args.h k.args.k k.requires.0 _ (k.requires.1.0.width, most)
     _ _ c.record_at-a.ensures c.record_size.ensures
-    (λ (W : ℕ) (p : Peer). on_frame (terms k.args.g (groups_of k.args.h)) (call k.args.g (fresh_of W k.args.fresh.now)) p (message_of k.args.body.now k.args.v))
+    (λ (W : ℕ) (p : Peer). on_frame (terms_in k.args.heard.now) (call_in k.args.heard.now) p (message_in k.args.heard.now))
     _ _ (search rules) c.on_frame.ensures

@@ -1,7 +1,9 @@
 use mathlib.Core.Path.{sym, ◌∙◌}
-use Rattle.message.specs.View.{message_of}
-use Rattle.calls.specs.Calls.{fresh_in}
-use Rattle.engine.proofs.Headers.{held-sized, held_at, held-reached}
+use Prim.Native.Nat.{◌≤◌}
+use Rattle.groups.specs.Groups.{width}
+use Rattle.groups.specs.Stocked.{commits_in}
+use Rattle.message.specs.Received.{message_in}
+use Rattle.engine.proofs.Headers.{held-header, held-sized, held_at, held-reached, paced}
 use Rattle.engine.proofs.Windows.{slot-changed}
 use Rattle.engine.proofs.Starts.{slotless-clocked}
 use Rattle.engine.proofs.Frames.{hear-seated, hear-unseated}
@@ -9,17 +11,19 @@ use borrow.Author.Rules.{rules}
 use Rattle.engine.proofs.hear.Goals as goal
 
 pub seat_of-requires : goal.seat_of-requires
-seat_of-requires c = let k = c in held-sized _ k.args.h _ k.requires.0 _ c.width_of-w.ensures
+seat_of-requires c = let k = c in
+    let most : k.args.heard.now.stock.width ≤ width = search rules in held-sized _ k.args.h _ k.requires.0 _ (k.requires.1.0.width, most)
 
 pub standing_of-was-requires : goal.standing_of-was-requires
 standing_of-was-requires c = let k = c in
+    let most : k.args.heard.now.stock.width ≤ width = search rules in
     held-reached _ k.args.h _ (held_at _ k.args.h _ _ k.requires.0
     (sym c.seat_of.ensures ∙ c.in-At.is)) _
-    c.width_of-w.ensures
+    (k.requires.1.0.width, most)
 
 pub frame_at-said-requires : goal.frame_at-said-requires
 frame_at-said-requires c = let k = c in
-    (held_at _ k.args.h _ _ k.requires.0 (sym c.seat_of.ensures ∙ c.in-At.is), (k.requires.1.0, (k.requires.1.1.0.clock, k.requires.1.1.1)))
+    (held_at _ k.args.h _ _ k.requires.0 (sym c.seat_of.ensures ∙ c.in-At.is), (k.requires.1.0, k.requires.1.1.clock))
 
 pub finish_at-requires : goal.finish_at-requires
 finish_at-requires c = let k = c in
@@ -29,12 +33,12 @@ finish_at-requires c = let k = c in
 
 pub hear_outside-requires : goal.hear_outside-requires
 hear_outside-requires c = let k = c in
-    (k.requires.1.0, (slotless-clocked k.args.h k.args.g _ k.requires.1.1.0 c.without_slot-slotless.ensures, k.requires.1.1.1))
+    paced _ k.args.h (held-header _ _ _ k.requires.0) (slotless-clocked k.args.h k.args.heard.now.given _ k.requires.1.1 c.without_slot-slotless.ensures)
 
 pub returns-in-At : goal.returns-in-At
 returns-in-At c = let k = c in
-    hear-seated k.args.t.now k.args.h k.args.f k.requires.0 k.args.g k.requires.1.1.0 (message_of k.args.body.now k.args.v)
-    (fresh_in k.args.h k.args.fresh.now)
+    let d = k.args.heard.now in
+    hear-seated k.args.t.now k.args.h k.args.f k.requires.0 d.given k.requires.1.1 (message_in d) d.stock.groups.now k.requires.1.0.groups (commits_in d.stock)
     _ _ _ _ _ _ (λ i. search rules)
     c.seat_of.ensures
     c.in-At.is
@@ -42,7 +46,7 @@ returns-in-At c = let k = c in
 
 pub returns-in-Nothing : goal.returns-in-Nothing
 returns-in-Nothing c = let k = c in
-    hear-unseated k.args.t.now k.args.h k.args.f k.requires.0 k.args.g k.requires.1.1.0 (message_of k.args.body.now k.args.v)
-    (fresh_in k.args.h k.args.fresh.now)
+    let d = k.args.heard.now in
+    hear-unseated k.args.t.now k.args.h k.args.f k.requires.0 d.given k.requires.1.1 (message_in d) d.stock.groups.now k.requires.1.0.groups (commits_in d.stock)
     _ _ _ (λ i. search rules)
     c.seat_of.ensures c.in-Nothing.is c.without_slot-slotless.ensures c.hear_outside.ensures

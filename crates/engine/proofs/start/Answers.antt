@@ -1,7 +1,7 @@
 use mathlib.Core.Path.{sym, ◌∙◌}
 use Rattle.engine.proofs.Headers.{held-sized, held_at, held-reached}
 use Rattle.engine.proofs.Windows.{slot-changed}
-use Rattle.engine.proofs.Starts.{given-clocked, started, start-full}
+use Rattle.engine.proofs.Starts.{given-clocked, stock-starts, started, start-full}
 use borrow.Author.Rules.{rules}
 use Rattle.engine.proofs.start.Goals as goal
 
@@ -16,7 +16,7 @@ standing_of-was-requires c = let k = c in
 
 pub start_at-said-requires : goal.start_at-said-requires
 start_at-said-requires c = let k = c in
-    (held_at _ k.args.h _ _ k.requires.0 (sym c.seat_of.ensures ∙ c.in-At.is), (k.requires.1, given-clocked k.args.h _ _ _ _ _ c.given_of-g.ensures))
+    (held_at _ k.args.h _ _ k.requires.0 (sym c.seat_of.ensures ∙ c.in-At.is), (c.stock_of-stock.ensures.1, given-clocked k.args.h _ _ _ _ _ c.given_of-g.ensures))
 
 pub finish_at-requires : goal.finish_at-requires
 finish_at-requires c = let k = c in
@@ -31,7 +31,7 @@ returns-in-At c = let k = c in
     c.seat_of.ensures
     c.in-At.is
     c.given_of-g.ensures
-    c.start_at-said.ensures c.finish_at.ensures
+    (stock-starts _ k.args.h k.args.fresh.now _ _ _ _ _ _ c.stock_of-stock.ensures.0 c.stock_of-stock.ensures.1 c.start_at-said.ensures) c.finish_at.ensures
 
 pub returns-in-Nothing : goal.returns-in-Nothing
 returns-in-Nothing c = let k = c in

@@ -1,48 +1,41 @@
-use Prim.Native.Nat.{ℕ}
+use Prim.Native.Nat.{ℕ, ◌≤◌}
 use native.Mathlib.Omega.{arith}
-use Rattle.groups.specs.Groups.{fresh_of}
+use Rattle.groups.specs.Groups.{width}
+use Rattle.groups.specs.Stocked.{commits_in}
 use Rattle.record.specs.declared.Peer.{Peer}
-use Rattle.record.specs.Layout.{groups_of}
 use Rattle.rules.specs.Book.{on_start}
 use Rattle.rules.specs.Given.{terms, call}
-use Rattle.engine.proofs.Headers.{held-header, held-reached, count_fits, listed-count, window-whole, stocked}
+use Rattle.engine.proofs.Headers.{held-reached, window-whole}
 use Rattle.engine.proofs.Windows.{at-step}
 use borrow.Author.Rules.{rules}
 use Rattle.engine.proofs.start_at.Goals as goal
 
 pub record_at-a-requires : goal.record_at-a-requires
 record_at-a-requires c = let k = c in
-    let R = held-reached _ k.args.h _ k.requires.0 _ c.width_of-w.ensures in
-    (R.most, omega (arith, R.long))
+    let most : k.args.stock.now.width ≤ width = search rules in
+    (most, omega (arith, (held-reached _ k.args.h _ k.requires.0 _ (k.requires.1.0.width, most)).long))
 
 pub overflow_add-e : goal.overflow_add-e
 overflow_add-e c = let k = c in
-    omega (arith, (held-reached _ k.args.h _ k.requires.0 _ c.width_of-w.ensures).long)
+    let most : k.args.stock.now.width ≤ width = search rules in
+    omega (arith, (held-reached _ k.args.h _ k.requires.0 _ (k.requires.1.0.width, most)).long)
 
 pub slice_bounds-on_start-end : goal.slice_bounds-on_start-end
 slice_bounds-on_start-end c = let k = c in
-    omega (arith, (held-reached _ k.args.h _ k.requires.0 _ c.width_of-w.ensures).long)
-
-pub slice_bounds-list-end : goal.slice_bounds-list-end
-slice_bounds-list-end c = let k = c in
-    count_fits k.args.h (held-header _ _ _ k.requires.0) k.requires.1.0.places
-
-pub slice_bounds-on_start-end-2 : goal.slice_bounds-on_start-end-2
-slice_bounds-on_start-end-2 c = let k = c in
-    listed-count k.args.h (held-header _ _ _ k.requires.0) k.requires.1.0.places
+    let most : k.args.stock.now.width ≤ width = search rules in
+    omega (arith, (held-reached _ k.args.h _ k.requires.0 _ (k.requires.1.0.width, most)).long)
 
 pub on_start-requires : goal.on_start-requires
 on_start-requires c = let k = c in
-    let S = k.requires.1.0 in
-    let O =
-    window-whole _ k.args.h _ k.requires.0 _ c.width_of-w.ensures
+    let most : k.args.stock.now.width ≤ width = search rules in
+    window-whole _ k.args.h _ k.requires.0 _ (k.requires.1.0.width, most)
     _ _ c.record_at-a.ensures c.record_size.ensures
-    k.args.g.clock (λ i. search rules) k.requires.1.1 in
-    (O, stocked k.args.h S.header S.places _ c.width_of-w.ensures.0 _ S.each)
+    k.args.g.clock (λ i. search rules) k.requires.1.1
 
 pub returns : goal.returns
 returns c = let k = c in
-    at-step k.args.t.now k.args.h k.args.k k.requires.0 _ c.width_of-w.ensures
+    let most : k.args.stock.now.width ≤ width = search rules in
+    at-step k.args.t.now k.args.h k.args.k k.requires.0 _ (k.requires.1.0.width, most)
     _ _ c.record_at-a.ensures c.record_size.ensures
-    (λ (W : ℕ) (p : Peer). on_start (terms k.args.g (groups_of k.args.h)) (call k.args.g (fresh_of W k.args.fresh.now)) p) _ _ (search rules)
+    (λ (W : ℕ) (p : Peer). on_start (terms k.args.g k.args.stock.now.groups.now) (call k.args.g (commits_in k.args.stock.now)) p) _ _ (search rules)
     c.on_start.ensures
