@@ -1,5 +1,7 @@
 // What the acts of the rule book share, in a record's own octets: the scope's own words "Repeat", "Give up" and "Form", how a run becomes a link, and
 // how a link ends. "Drop" changes nothing there.
+// The octets that an act writes, `s`, and the width `w` stay two parameters: a struct that held the `&mut` would ask each function here for a clause more, that
+// the field is still the reference that came in. What only reads makes a `Record` of them.
 #![tactic(auto)]
 
 ghost use Rattle.std.specs.Prelude.{◌≡◌, ◌+◌, ◌≤◌, length};
@@ -11,8 +13,8 @@ ghost use Rattle.rules.specs.Said.{saying_frames, saying_event, saying_refused, 
 ghost use Rattle.rules.specs.Given.{Paced};
 
 use record::{
-    ADDRESS, FINISHED, GROUP, LINK_GROUP, LINK_OWN, LINK_SYNC, RC, REJECTED, RUN, RUN_OWN, SC,
-    SPARE, STATE, SUPERSEDED, SYNC, T0, T1, USED,
+    ADDRESS, FINISHED, GROUP, LINK_GROUP, LINK_OWN, LINK_SYNC, RC, REJECTED, RUN, RUN_OWN, Record,
+    SC, SPARE, STATE, SUPERSEDED, SYNC, T0, T1, USED,
 };
 use rules::{Clock, Event, Frame, Frames, Said};
 
@@ -179,7 +181,11 @@ pub fn abandon(s: &mut [u8], w: usize) -> Said
     requires { (length s.old ≡ record_size w) × (w ≤ width) }
     ensures { Does w result s.new (abandoning (decode_peer w s.old)) }
 {
-    let finished = record::finished_of(s, w);
+    let peer = Record {
+        octets: s,
+        width: w,
+    };
+    let finished = peer.finished();
     if finished == 0 {
         record::clear(s);
         return say_event(Event::Abandoned);
@@ -195,7 +201,11 @@ pub fn retransmit(s: &mut [u8], w: usize, sc: u16, frames: Frames, clock: Clock)
     ensures { Does w result s.new (retransmitting clock (decode_peer w s.old) (with_sc (decode_peer w s.old).run sc) frames) }
 {
     let limit = clock.limit;
-    let sync = record::sync_of(s, w);
+    let peer = Record {
+        octets: s,
+        width: w,
+    };
+    let sync = peer.sync();
     if sync > limit {
         return abandon(s, w);
     }
@@ -237,8 +247,12 @@ pub fn accept(s: &mut [u8], w: usize, counter: u16, time: u32) -> Said
 {
     let at = record::link_at(w);
     let end = record::record_size(w);
-    let sync = record::sync_of(s, w);
-    let group = record::group_of(s, w);
+    let peer = Record {
+        octets: s,
+        width: w,
+    };
+    let sync = peer.sync();
+    let group = peer.group();
     octets::copy_within(s, RUN + RUN_OWN, at + LINK_OWN, w + w);
     finish_link(&mut s[at..end], w, sync, group, counter, time);
     record::clear(&mut s[RUN..at]);
@@ -250,7 +264,11 @@ pub fn end_link(s: &mut [u8], w: usize) -> Said
     requires { (length s.old ≡ record_size w) × (w ≤ width) }
     ensures { Does w result s.new (ending_link (decode_peer w s.old)) }
 {
-    let state = record::state_of(s, w);
+    let peer = Record {
+        octets: s,
+        width: w,
+    };
+    let state = peer.state();
     if state == 0 {
         record::clear(s);
         return say_event(Event::Ended);

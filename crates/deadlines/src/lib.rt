@@ -1,12 +1,12 @@
 // The clock, "a 32-bit count of milliseconds that wraps": deadlines by wrapping add, the due test by wrapping subtract.
 #![tactic(auto)]
 
-ghost use Rattle.std.specs.Prelude.{◌≡◌, ◌+◌, ◌≤◌, length};
-ghost use Rattle.groups.specs.Groups.{width};
-ghost use Rattle.record.specs.Layout.{decode_peer, record_size};
+ghost use Rattle.std.specs.Prelude.{◌≡◌, ◌+◌, ◌≤◌};
+ghost use Rattle.record.specs.Reading.{peer_in};
 ghost use Rattle.rules.specs.Book.{delay, deadline, due, t0_due, expired};
 ghost use Rattle.rules.specs.Given.{Paced};
 
+use record::Record;
 use rules::Clock;
 
 // Half of the clock's range.
@@ -55,24 +55,22 @@ pub fn t1_at(time: u32) -> u32
 }
 
 // t0 counts only with a run.
-pub fn t0_due(s: &[u8], w: usize, time: u32) -> bool
-    requires { (length s.now ≡ record_size w) × (w ≤ width) }
-    ensures { result ≡ t0_due (decode_peer w s.now) time }
+pub fn t0_due(peer: &Record, time: u32) -> bool
+    ensures { result ≡ t0_due (peer_in peer.now) time }
 {
-    let state = record::state_of(s, w);
-    let at = record::t0_of(s, w);
+    let state = peer.state();
+    let at = peer.t0();
     let due = is_due(time, at);
     (state != 0) & due
 }
 
 // Whether a record has a deadline that is due.
-pub fn is_expired(s: &[u8], w: usize, time: u32) -> bool
-    requires { (length s.now ≡ record_size w) × (w ≤ width) }
-    ensures { result ≡ expired (decode_peer w s.now) time }
+pub fn is_expired(peer: &Record, time: u32) -> bool
+    ensures { result ≡ expired (peer_in peer.now) time }
 {
-    let early = t0_due(s, w, time);
-    let finished = record::finished_of(s, w);
-    let at = record::t1_of(s, w);
+    let early = t0_due(peer, time);
+    let finished = peer.finished();
+    let at = peer.t1();
     let late = is_due(time, at);
     early | ((finished != 0) & late)
 }

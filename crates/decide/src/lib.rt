@@ -1,117 +1,109 @@
 // The ladders of the rule book: what a frame calls for. Only reads, and nothing is compared before it is asked.
 #![tactic(auto)]
 
-ghost use Rattle.std.specs.Prelude.{◌≡◌, ◌&&◌, not, ◌≤◌, eqb, length, take, if◌then◌else◌};
+ghost use Rattle.std.specs.Prelude.{◌≡◌, ◌&&◌, not, ◌≤◌, eqb, take, if◌then◌else◌};
 ghost use Rattle.octets.specs.Octets.{part, same};
-ghost use Rattle.groups.specs.Groups.{width, scalar_length, stored, Storable, fresh_of, fresh_for};
-ghost use Rattle.record.specs.Layout.{decode_peer, record_size};
+ghost use Rattle.groups.specs.Groups.{scalar_length, stored, fresh_for};
+ghost use Rattle.groups.specs.Stocked.{commits_in};
+ghost use Rattle.record.specs.Reading.{peer_in};
 ghost use Rattle.rules.specs.declared.Act.TheVariants.{Drop};
 ghost use Rattle.rules.specs.Book.{linked_with, commit_idle, commit_committed, commit_confirmed, confirm_committed, confirm_confirmed, confirm_linked, commit_act, confirm_act, frame_act};
-ghost use Rattle.message.specs.View.{message_of};
-ghost use Rattle.rules.specs.Given.{terms, call, Stocked, Ready};
+ghost use Rattle.message.specs.Received.{message_in, terms_in, call_in};
 
-use message::View;
-use rules::{Act, Given};
+use message::Heard;
+use record::Record;
+use rules::Act;
 
 // The scalar of a group is that of the link's peer.
-fn same_scalar(s: &[u8], w: usize, heard: &[u8], group: u16) -> bool
-    requires { (length s.now ≡ record_size w) × ((w ≤ width) × (66 ≤ w)) }
-    ensures { result ≡ same (part (stored heard.now) 0 (scalar_length group)) (part (decode_peer w s.now).link.peer 0 (scalar_length group)) }
+fn same_scalar(peer: &Record, commit: &[u8], group: u16) -> bool
+    requires { 66 ≤ peer.now.width }
+    ensures { result ≡ same (part (stored commit.now) 0 (scalar_length group)) (part (peer_in peer.now).link.peer 0 (scalar_length group)) }
 {
     let n = groups::scalar_length(group);
-    let peer = record::link_peer_of(s, w);
-    groups::same_front(heard, peer, n)
+    let theirs = peer.link_peer();
+    groups::same_front(commit, theirs, n)
 }
 
 // "finished link with that group and peer scalar"
-fn is_linked(s: &[u8], w: usize, v: View, body: &[u8]) -> bool
-    requires { (length s.now ≡ record_size w) × ((w ≤ width) × (66 ≤ w)) }
-    ensures { result ≡ linked_with (decode_peer w s.now).link (message_of body.now v) }
+fn is_linked(peer: &Record, heard: &Heard) -> bool
+    requires { peer.now.width ≡ heard.now.stock.width }
+    ensures { result ≡ linked_with (peer_in peer.now).link (message_in heard.now) }
 {
-    let finished = record::finished_of(s, w);
+    let finished = peer.finished();
     if finished == 0 {
         return false;
     }
-    let our_group = record::link_group_of(s, w);
-    let group = v.group;
+    let our_group = peer.link_group();
+    let group = heard.view.group;
     if our_group != group {
         return false;
     }
-    let heard = message::commit(body, v);
-    same_scalar(s, w, heard, group)
+    let commit = heard.commit();
+    same_scalar(peer, commit, group)
 }
 
 // "wrong token", Open being at or above the threshold
-fn is_wrong(crowded: bool, v: View, body: &[u8], expected: [u8; 32]) -> bool
-    requires { v.toklen ≤ 256 }
-    ensures { result ≡ (crowded && not (same (take v.toklen (message_of body.now v).token) expected)) }
+fn is_wrong(heard: &Heard) -> bool
+    ensures { result ≡ (heard.now.given.crowded && not (same (take heard.now.view.toklen (message_in heard.now).token) heard.now.given.expected)) }
 {
+    let crowded = heard.given.crowded;
     if !crowded {
         return false;
     }
-    let token = message::token(body, v);
-    let n = v.toklen as usize;
+    let expected = heard.given.expected;
+    let token = heard.token();
+    let n = heard.view.toklen as usize;
     let same = octets::is_same(&token[..n], &expected[..]);
     !same
 }
 
 // "equal to our stock's"
-fn equals_fresh(v: View, body: &[u8], groups: &[u16], fresh: &[u8], w: usize) -> bool
-    requires { Stocked w groups.now fresh.now × ((w ≤ width) × Storable w (message_of body.now v).commit) }
-    ensures { result ≡ same (message_of body.now v).commit (fresh_for groups.now (fresh_of w fresh.now) v.group) }
+fn equals_fresh(heard: &Heard) -> bool
+    ensures { result ≡ same (message_in heard.now).commit (fresh_for heard.now.stock.groups.now (commits_in heard.now.stock) heard.now.view.group) }
 {
-    let heard = message::commit(body, v);
-    let own = groups::fresh_for(groups, fresh, w, v.group);
-    groups::same_front(heard, own, w)
+    let commit = heard.commit();
+    let own = heard.stock.fresh_for(heard.view.group);
+    groups::same_front(commit, own, heard.stock.width)
 }
 
 // "equal to our commit"
-fn equals_own(s: &[u8], w: usize, v: View, body: &[u8]) -> bool
-    requires { (length s.now ≡ record_size w) × ((w ≤ width) × Storable w (message_of body.now v).commit) }
-    ensures { result ≡ same (message_of body.now v).commit (decode_peer w s.now).run.own }
+fn equals_own(peer: &Record, heard: &Heard) -> bool
+    requires { peer.now.width ≡ heard.now.stock.width }
+    ensures { result ≡ same (message_in heard.now).commit (peer_in peer.now).run.own }
 {
-    let heard = message::commit(body, v);
-    let own = record::own_of(s, w);
-    groups::same_front(heard, own, w)
+    let commit = heard.commit();
+    let own = peer.own();
+    groups::same_front(commit, own, peer.width)
 }
 
 // "Commit, no run, in this order"
-pub fn commit_idle(
-    s: &[u8],
-    w: usize,
-    g: Given,
-    v: View,
-    body: &[u8],
-    groups: &[u16],
-    fresh: &[u8],
-) -> Act
-    requires { Ready g.clock w s.now groups.now fresh.now (message_of body.now v) }
-    ensures { result ≡ commit_idle (terms g groups.now) (call g (fresh_of w fresh.now)) (decode_peer w s.now) (message_of body.now v) }
+pub fn commit_idle(peer: &Record, heard: &Heard) -> Act
+    requires { peer.now.width ≡ heard.now.stock.width }
+    ensures { result ≡ commit_idle (terms_in heard.now) (call_in heard.now) (peer_in peer.now) (message_in heard.now) }
 {
-    let status = v.status;
-    let listed = v.listed;
-    let toklen = v.toklen;
-    let crowded = g.crowded;
-    let full = g.full;
-    let verified = g.verified;
+    let status = heard.view.status;
+    let listed = heard.view.listed;
+    let toklen = heard.view.toklen;
+    let crowded = heard.given.crowded;
+    let full = heard.given.full;
+    let verified = heard.given.verified;
     if status != 0 {
         return Act::Drop;
     }
     if !listed {
         return Act::RefuseGroup;
     }
-    if is_linked(s, w, v, body) {
+    if is_linked(peer, heard) {
         return Act::Drop;
     }
     let lacks = crowded & (toklen == 0);
     if lacks {
         return Act::AskToken;
     }
-    let expected = g.expected;
-    if is_wrong(crowded, v, body, expected) {
+    if is_wrong(heard) {
         return Act::Drop;
     }
-    if equals_fresh(v, body, groups, fresh, w) {
+    if equals_fresh(heard) {
         return Act::Drop;
     }
     if !verified {
@@ -134,25 +126,17 @@ fn for_ours(group: u16, ours: u16, act: Act) -> Act
 }
 
 // "Commit in Committed"
-pub fn commit_committed(
-    s: &[u8],
-    w: usize,
-    g: Given,
-    v: View,
-    body: &[u8],
-    groups: &[u16],
-    fresh: &[u8],
-) -> Act
-    requires { Ready g.clock w s.now groups.now fresh.now (message_of body.now v) }
-    ensures { result ≡ commit_committed (terms g groups.now) (call g (fresh_of w fresh.now)) (decode_peer w s.now) (message_of body.now v) }
+pub fn commit_committed(peer: &Record, heard: &Heard) -> Act
+    requires { peer.now.width ≡ heard.now.stock.width }
+    ensures { result ≡ commit_committed (terms_in heard.now) (call_in heard.now) (peer_in peer.now) (message_in heard.now) }
 {
-    let status = v.status;
-    let group = v.group;
-    let listed = v.listed;
-    let verified = g.verified;
-    let own = g.own;
-    let address = g.address;
-    let our_group = record::group_of(s, w);
+    let status = heard.view.status;
+    let group = heard.view.group;
+    let listed = heard.view.listed;
+    let verified = heard.given.verified;
+    let own = heard.given.own;
+    let address = heard.given.address;
+    let our_group = peer.group();
     if status == 76 {
         return for_ours(group, our_group, Act::ReplyToken);
     }
@@ -172,12 +156,12 @@ pub fn commit_committed(
         if !verified {
             return Act::Drop;
         }
-        if equals_fresh(v, body, groups, fresh, w) {
+        if equals_fresh(heard) {
             return Act::Drop;
         }
         return Act::AnswerCommit;
     }
-    if equals_own(s, w, v, body) {
+    if equals_own(peer, heard) {
         return Act::Drop;
     }
     if !verified {
@@ -187,30 +171,21 @@ pub fn commit_committed(
 }
 
 // "Confirmed. Commit"
-pub fn commit_confirmed(
-    s: &[u8],
-    w: usize,
-    g: Given,
-    v: View,
-    body: &[u8],
-    groups: &[u16],
-    fresh: &[u8],
-) -> Act
-    requires { Ready g.clock w s.now groups.now fresh.now (message_of body.now v) }
-    ensures { result ≡ commit_confirmed (call g (fresh_of w fresh.now)) (decode_peer w s.now) (message_of body.now v) }
+pub fn commit_confirmed(peer: &Record, heard: &Heard) -> Act
+    ensures { result ≡ commit_confirmed (call_in heard.now) (peer_in peer.now) (message_in heard.now) }
 {
-    let status = v.status;
-    let group = v.group;
-    let clock = g.clock;
+    let status = heard.view.status;
+    let group = heard.view.group;
+    let clock = heard.given.clock;
     let limit = clock.limit;
     if status != 0 {
         return Act::Drop;
     }
-    let sync = record::sync_of(s, w);
+    let sync = peer.sync();
     if sync > limit {
         return Act::GiveUp;
     }
-    let our_group = record::group_of(s, w);
+    let our_group = peer.group();
     if group != our_group {
         return Act::Drop;
     }
@@ -218,19 +193,10 @@ pub fn commit_confirmed(
 }
 
 // "Confirm in Committed"
-pub fn confirm_committed(
-    s: &[u8],
-    w: usize,
-    g: Given,
-    v: View,
-    body: &[u8],
-    groups: &[u16],
-    fresh: &[u8],
-) -> Act
-    requires { Ready g.clock w s.now groups.now fresh.now (message_of body.now v) }
-    ensures { result ≡ confirm_committed (message_of body.now v) }
+pub fn confirm_committed(heard: &Heard) -> Act
+    ensures { result ≡ confirm_committed (message_in heard.now) }
 {
-    let status = v.status;
+    let status = heard.view.status;
     if status != 0 {
         return Act::Drop;
     }
@@ -238,20 +204,11 @@ pub fn confirm_committed(
 }
 
 // "Confirmed. Confirm"
-pub fn confirm_confirmed(
-    s: &[u8],
-    w: usize,
-    g: Given,
-    v: View,
-    body: &[u8],
-    groups: &[u16],
-    fresh: &[u8],
-) -> Act
-    requires { Ready g.clock w s.now groups.now fresh.now (message_of body.now v) }
-    ensures { result ≡ confirm_confirmed (call g (fresh_of w fresh.now)) (message_of body.now v) }
+pub fn confirm_confirmed(heard: &Heard) -> Act
+    ensures { result ≡ confirm_confirmed (call_in heard.now) (message_in heard.now) }
 {
-    let status = v.status;
-    let verified = g.verified;
+    let status = heard.view.status;
+    let verified = heard.given.verified;
     if status != 0 {
         return Act::Drop;
     }
@@ -262,31 +219,22 @@ pub fn confirm_confirmed(
 }
 
 // "Link, no run, Confirm"
-pub fn confirm_linked(
-    s: &[u8],
-    w: usize,
-    g: Given,
-    v: View,
-    body: &[u8],
-    groups: &[u16],
-    fresh: &[u8],
-) -> Act
-    requires { Ready g.clock w s.now groups.now fresh.now (message_of body.now v) }
-    ensures { result ≡ confirm_linked (call g (fresh_of w fresh.now)) (decode_peer w s.now) (message_of body.now v) }
+pub fn confirm_linked(peer: &Record, heard: &Heard) -> Act
+    ensures { result ≡ confirm_linked (call_in heard.now) (peer_in peer.now) (message_in heard.now) }
 {
-    let status = v.status;
-    let counter = v.counter;
-    let verified = g.verified;
-    let clock = g.clock;
+    let status = heard.view.status;
+    let counter = heard.view.counter;
+    let verified = heard.given.verified;
+    let clock = heard.given.clock;
     let limit = clock.limit;
     if status != 0 {
         return Act::Drop;
     }
-    let sync = record::link_sync_of(s, w);
+    let sync = peer.link_sync();
     if sync > limit {
         return Act::EndLink;
     }
-    let rc = record::rc_of(s, w);
+    let rc = peer.rc();
     if counter <= rc {
         return Act::Drop;
     }
@@ -300,71 +248,46 @@ pub fn confirm_linked(
 }
 
 // A Commit: "a run takes all frames while it lasts"
-pub fn commit(
-    s: &[u8],
-    w: usize,
-    g: Given,
-    v: View,
-    body: &[u8],
-    groups: &[u16],
-    fresh: &[u8],
-) -> Act
-    requires { Ready g.clock w s.now groups.now fresh.now (message_of body.now v) }
-    ensures { result ≡ commit_act (terms g groups.now) (call g (fresh_of w fresh.now)) (decode_peer w s.now) (message_of body.now v) }
+pub fn commit(peer: &Record, heard: &Heard) -> Act
+    requires { peer.now.width ≡ heard.now.stock.width }
+    ensures { result ≡ commit_act (terms_in heard.now) (call_in heard.now) (peer_in peer.now) (message_in heard.now) }
 {
-    let state = record::state_of(s, w);
+    let state = peer.state();
     if state == 1 {
-        return commit_committed(s, w, g, v, body, groups, fresh);
+        return commit_committed(peer, heard);
     }
     if state == 2 {
-        return commit_confirmed(s, w, g, v, body, groups, fresh);
+        return commit_confirmed(peer, heard);
     }
-    commit_idle(s, w, g, v, body, groups, fresh)
+    commit_idle(peer, heard)
 }
 
 // A Confirm: "a run takes all frames while it lasts. Confirm with neither: drop."
-pub fn confirm(
-    s: &[u8],
-    w: usize,
-    g: Given,
-    v: View,
-    body: &[u8],
-    groups: &[u16],
-    fresh: &[u8],
-) -> Act
-    requires { Ready g.clock w s.now groups.now fresh.now (message_of body.now v) }
-    ensures { result ≡ confirm_act (call g (fresh_of w fresh.now)) (decode_peer w s.now) (message_of body.now v) }
+pub fn confirm(peer: &Record, heard: &Heard) -> Act
+    ensures { result ≡ confirm_act (call_in heard.now) (peer_in peer.now) (message_in heard.now) }
 {
-    let state = record::state_of(s, w);
+    let state = peer.state();
     if state == 1 {
-        return confirm_committed(s, w, g, v, body, groups, fresh);
+        return confirm_committed(heard);
     }
     if state == 2 {
-        return confirm_confirmed(s, w, g, v, body, groups, fresh);
+        return confirm_confirmed(heard);
     }
-    let finished = record::finished_of(s, w);
+    let finished = peer.finished();
     if finished != 0 {
-        return confirm_linked(s, w, g, v, body, groups, fresh);
+        return confirm_linked(peer, heard);
     }
     Act::Drop
 }
 
 // What a frame calls for
-pub fn frame(
-    s: &[u8],
-    w: usize,
-    g: Given,
-    v: View,
-    body: &[u8],
-    groups: &[u16],
-    fresh: &[u8],
-) -> Act
-    requires { Ready g.clock w s.now groups.now fresh.now (message_of body.now v) }
-    ensures { result ≡ frame_act (terms g groups.now) (call g (fresh_of w fresh.now)) (decode_peer w s.now) (message_of body.now v) }
+pub fn frame(peer: &Record, heard: &Heard) -> Act
+    requires { peer.now.width ≡ heard.now.stock.width }
+    ensures { result ≡ frame_act (terms_in heard.now) (call_in heard.now) (peer_in peer.now) (message_in heard.now) }
 {
-    let sequence = v.sequence;
+    let sequence = heard.view.sequence;
     if sequence == 1 {
-        return commit(s, w, g, v, body, groups, fresh);
+        return commit(peer, heard);
     }
-    confirm(s, w, g, v, body, groups, fresh)
+    confirm(peer, heard)
 }

@@ -11,7 +11,7 @@ use borrow.Author.Tests.{eq-eqb, ne_eqb, lt-ltb, le-ltb, eqb-true}
 use Rattle.octets.specs.Octets.{Bytes, part}
 use Rattle.std.specs.Prelude.{if◌then◌else◌, Option, Some, None, Result, Ok, Err, ok_or}
 use Rattle.octets.proofs.Scan.{clash}
-use Rattle.groups.specs.Groups.{Storable, fresh_of, fresh_ok}
+use Rattle.groups.specs.Groups.{Storable, fresh_ok}
 use Rattle.record.specs.declared.Header.{Header}
 use Rattle.record.specs.Layout.{groups_of, width_in, decode_peer, no_peer}
 use Rattle.soundness.specs.Soundness.{header_ok}
@@ -22,7 +22,7 @@ use Rattle.table.specs.declared.Entrance.{Entrance}
 use Rattle.rules.specs.declared.Given.{Given}
 use Rattle.rules.specs.Message.{Message}
 use Rattle.rules.specs.declared.Said.{Said}
-use Rattle.rules.specs.Book.{◌is◌, Terms, Step, on_frame}
+use Rattle.rules.specs.Book.{◌is◌, Terms, Call, Step, on_frame}
 use Rattle.rules.specs.Given.{terms, call}
 use Rattle.rules.specs.Said.{Does, saying}
 use Rattle.rule_laws.proofs.Slots.{frame-seated}
@@ -34,7 +34,7 @@ use Rattle.causes.specs.declared.Refusal.TheVariants as why
 use Rattle.answers.specs.Answers.{Report, Leaves, ends, refuse, seating, refused, said, answered, finish_at, finishes}
 use Rattle.answers.proofs.Laws.{clashed, turned-refused, turned-go}
 use Rattle.calls.specs.Calls.{terms_of, clock_of, brings, fresh_in, admit_frame, frame_turn, frame_step, receives}
-use Rattle.engine.specs.InSlot.{Held, Stocks, Fitting, given_by, slotless, Brought, AdmitsFrame, DoesAt, answers_outside}
+use Rattle.engine.specs.InSlot.{Held, Stocks, given_by, slotless, Brought, AdmitsFrame, DoesAt, answers_outside}
 use Rattle.engine.proofs.Headers.{entered-held}
 use Rattle.engine.proofs.Windows.{look-seat, seat-done}
 use Rattle.engine.proofs.Starts.{seat-none, seated-terms, unseated-terms, brought, stock-tested, stocks}
@@ -164,10 +164,10 @@ module _ (s : Step) (a : List ℕ) (x : Said) (r : Report) (e : x ≡ saying s) 
       go true i = let y : ◌≡◌ {A = ℕ} 0 1 = cc in absurd (omega arith)
       go false i = refl
 
--- the rule on a free record says what the step of the free record says, with the header's width
-pub outside-says : (h : Header) (g : Given) (m : Message) (w : ℕ) (gs fresh s left : List ℕ) (x : Said) → w ≡ width_in h → gs ≡ groups_of h → decode_peer w s ≡ no_peer
-    → Does w x left (on_frame (terms g gs) (call g (fresh_of w fresh)) (decode_peer w s) m) → x ≡ saying (on_frame (terms g (groups_of h)) (call g (fresh_in h fresh)) no_peer m)
-outside-says h g m w gs fresh s left x ew eg e d = d.says ∙ (λ i. saying (on_frame (terms g (eg i)) (call g (fresh_of (ew i) fresh)) (e i) m))
+-- the rule on a free record says what the step of the free record says
+pub outside-says : (t : Terms) (c : Call) (m : Message) (w : ℕ) (s left : List ℕ) (x : Said) → decode_peer w s ≡ no_peer
+    → Does w x left (on_frame t c (decode_peer w s) m) → x ≡ saying (on_frame t c no_peer m)
+outside-says t c m w s left x e d = d.says ∙ (λ i. saying (on_frame t c (e i) m))
 
 -- no slot: the table stays
 outside-leaves : (t : List ℕ) (f : Option ℕ) (s : Step) (a : List ℕ) (r : Report) → Bytes t → sound t ≡ true → seating (decode_table t) f ≡ None → r ≡ answers_outside s a → Leaves r t (finishes t f s a)
@@ -178,16 +178,16 @@ outside-leaves t f s a r b w e z = subst (λ (g : Option ℕ). Leaves r t (if s.
     go true q = record { answer = q; table = refl }
     go false q = record { answer = q; table = sym (recounted-again t b w) }
 
-module _ (t : List ℕ) (h : Header) (f : Option ℕ) (H : Held t h f) (g : Given) (B : Brought g h) (m : Message) (fresh : List (List ℕ)) (r : Report) where
+module _ (t : List ℕ) (h : Header) (f : Option ℕ) (H : Held t h f) (g : Given) (B : Brought g h) (m : Message) (gs : List ℕ) (eg : gs ≡ groups_of h) (fresh : List (List ℕ)) (r : Report) where
   -- in the slot
   pub hear-seated : (k : ℕ) (j : Option ℕ) (u v : List ℕ) (x : Said) → Bytes t → j ≡ seating (decode_table t) f → j ≡ Some k
-      → DoesAt x u t k (on_frame (terms g (groups_of h)) (call g fresh) (slot (decode_table t) k) m) → (r ≡ answered x g.address) × (v ≡ encode_table (recounted (decode_table u)))
+      → DoesAt x u t k (on_frame (terms g gs) (call g fresh) (slot (decode_table t) k) m) → (r ≡ answered x g.address) × (v ≡ encode_table (recounted (decode_table u)))
       → Leaves r v (finishes t f (on_frame (terms_of (decode_table t) f) (call g fresh) (look_by (decode_table t) f) m) g.address)
   hear-seated k j u v x b p q d w =
       let e : seating (decode_table t) f ≡ Some k = sym p ∙ q in
       let T = seated-terms g h (decode_table t) f k H.header B e in
       let P = look-seat t f k b H.seated e in
-      seat-done t f k u v g.address x _ _ r e (frame-seated _ _ _ m (ap (λ (y : Terms). y.full) (sym T) ∙ B.full)) (λ i. on_frame (sym T i) (call g fresh) (P i) m) d w
+      seat-done t f k u v g.address x _ _ r e (frame-seated _ _ _ m (ap (λ (y : Terms). y.full) (sym T) ∙ B.full)) ((λ i. on_frame (sym T i) (call g fresh) (P i) m) ∙ (λ i. on_frame (terms g (sym eg i)) (call g fresh) (slot (decode_table t) k) m)) d w
 
   -- without one
   look_none : seating (decode_table t) f ≡ None → look_by (decode_table t) f ≡ no_peer
@@ -195,13 +195,14 @@ module _ (t : List ℕ) (h : Header) (f : Option ℕ) (H : Held t h f) (g : Give
   look_none e = ap (look_by (decode_table t)) (seat-none (decode_table t) f e).0
 
   pub hear-unseated : (j : Option ℕ) (y : Given) → Bytes t → j ≡ seating (decode_table t) f → j ≡ None → y ≡ slotless g
-      → r ≡ answers_outside (on_frame (terms y (groups_of h)) (call y fresh) no_peer m) y.address
+      → r ≡ answers_outside (on_frame (terms y gs) (call y fresh) no_peer m) y.address
       → Leaves r t (finishes t f (on_frame (terms_of (decode_table t) f) (call g fresh) (look_by (decode_table t) f) m) g.address)
   hear-unseated j y b p q ey z =
       let e : seating (decode_table t) f ≡ None = sym p ∙ q in
       let T = unseated-terms g h (decode_table t) f H.header B e in
       outside-leaves t f _ g.address r b H.seated.whole e
-      (z ∙ ap (λ (i : Given). answers_outside (on_frame (terms i (groups_of h)) (call i fresh) no_peer m) i.address) ey
+      (z ∙ ap (λ (l : List ℕ). answers_outside (on_frame (terms y l) (call y fresh) no_peer m) y.address) eg
+      ∙ ap (λ (i : Given). answers_outside (on_frame (terms i (groups_of h)) (call i fresh) no_peer m) i.address) ey
       ∙ (λ i. answers_outside (on_frame (T i) (call g fresh) (sym (look_none e) i) m) g.address))
 
 -- the step of the call
@@ -215,15 +216,13 @@ frame_is t f a time frame fresh expected token verdict h w g eh ew et eg =
     ap (λ (x : Given). call x (fresh_in h fresh)) eg ∙ (λ i. brings a (clock_of (eh i) time) (fresh_in (eh i) fresh) (et i) (verdict is 1)) in
     λ i. on_frame (terms_of (decode_table t) f) (C i) (look_by (decode_table t) f) (message_of frame (W i))
 
--- the frame as it was read
-pub frame-fitting : (h : Header) (frame : List ℕ) (w : View) → header_ok h ≡ true → w ≡ view (groups_of h) frame → w.toklen ≤ 256 → Fitting h frame w
+-- the commit of a frame as it was read is stored with the table's width without loss
+pub frame-storable : (h : Header) (frame : List ℕ) (v : View) (w : ℕ) → header_ok h ≡ true → v ≡ view (groups_of h) frame → w ≡ width_in h → Storable w (message_of frame v).commit
 unfolding message
-frame-fitting h frame w ok e l =
+frame-storable h frame v w ok e ew =
     let R = header-room h ok in
-    record {
-      token = l;
-      commit = subst (λ (x : View). Storable (width_in h) (message_of frame x).commit) (sym e) (message-storable (width_in h) (groups_of h) frame R.most R.each);
-    }
+    subst (λ (W : ℕ). Storable W (message_of frame v).commit) (sym ew)
+    (subst (λ (x : View). Storable (width_in h) (message_of frame x).commit) (sym e) (message-storable (width_in h) (groups_of h) frame R.most R.each))
 
 -- what a call brings
 pub given-brought : (h : Header) (a : List ℕ) (time : ℕ) (expected : List ℕ) (v : Bool) (g : Given) → g ≡ given_by h a time expected v → Brought g h
@@ -249,12 +248,13 @@ module _ (t a : List ℕ) (time : ℕ) (frame fresh expected : List ℕ) (verdic
     receive-refused c q z = turned-refused _ _ t a (Err c) (turn_of (Err c) (K.refuses c q (decode_table t) e.slot E.looked.header)) r c refl z
 
     module _ (v : View) (q : A ≡ Ok v) where
-      pub receive-went : (token : List ℕ) (g : Given) (u : List ℕ) → token ≡ expected → g ≡ given_by e.header a time token (verdict is 1)
-          → Leaves r u (finishes t e.slot (on_frame (terms_of (decode_table t) e.slot) (call g (fresh_in e.header fresh)) (look_by (decode_table t) e.slot) (message_of frame v)) g.address)
+      pub receive-went : (token : List ℕ) (g : Given) (cs : List (List ℕ)) (u : List ℕ) → token ≡ expected → g ≡ given_by e.header a time token (verdict is 1) → cs ≡ fresh_in e.header fresh
+          → Leaves r u (finishes t e.slot (on_frame (terms_of (decode_table t) e.slot) (call g cs) (look_by (decode_table t) e.slot) (message_of frame v)) g.address)
           → Leaves r u (receives t a time frame fresh expected verdict)
       unfolding receives
-      receive-went token g u et eg l =
-          let S = frame_is t e.slot a time frame fresh expected token verdict e.header v g E.looked.header (K.view v q) et eg in
+      receive-went token g cs u et eg ec l =
+          let M = λ (x : List (List ℕ)). on_frame (terms_of (decode_table t) e.slot) (call g x) (look_by (decode_table t) e.slot) (message_of frame v) in
+          let S = ap M ec ∙ frame_is t e.slot a time frame fresh expected token verdict e.header v g E.looked.header (K.view v q) et eg in
           let L : Leaves r u (finishes t e.slot (frame_step (decode_table t) e.slot a time frame fresh expected verdict) a) =
           subst (λ (x : List ℕ). Leaves r u (finishes t e.slot (frame_step (decode_table t) e.slot a time frame fresh expected verdict) x)) (ap (λ (x : Given). x.address) eg)
           (subst (λ (x : Step). Leaves r u (finishes t e.slot x g.address)) S l) in

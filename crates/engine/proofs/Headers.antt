@@ -13,7 +13,7 @@ use lib.ListN.{length, take, drop, replicate, length-replicate}
 use lib.Pow.{pow_mono}
 use lib.Seq.{length-take-le}
 use Rattle.octets.specs.Octets.{Bytes}
-use Rattle.groups.specs.Groups.{width, fresh_ok, Storable}
+use Rattle.groups.specs.Groups.{width, fresh_ok}
 use Rattle.groups.proofs.Laws.{take-zeros}
 use Rattle.groups.proofs.Fresh.{fresh-length}
 use Rattle.record.specs.declared.Header.{Header}
@@ -31,13 +31,10 @@ use Rattle.table.proofs.Laws.{entry-found, sound-header, sound-peer, sound-whole
 use Rattle.table.proofs.Fit.{fit-slot, fit-decoded}
 use Rattle.table.proofs.Octets.{window-law, window-length}
 use Rattle.rules.specs.declared.Clock.{Clock}
-use Rattle.rules.specs.Message.{Message}
-use Rattle.rules.specs.Given.{Paced, Whole, Stocked, Ready}
-use Rattle.message.specs.declared.View.{View}
-use Rattle.message.specs.View.{message_of}
+use Rattle.rules.specs.Given.{Paced, Whole}
 use Rattle.answers.specs.Answers.{Seated, seating}
 use Rattle.answers.proofs.Laws.{came, entered-seated, seated-ready}
-use Rattle.engine.specs.InSlot.{Held, Stocks, Fitting, Clocked}
+use Rattle.engine.specs.InSlot.{Held, Clocked}
 use Rattle.causes.specs.declared.Refusal.{Refusal}
 
 -- ---- the listed groups
@@ -57,26 +54,27 @@ module _ (h : Header) (ok : header_ok h ≡ true) (three : length h.settings.gro
     pub stock-asks : w ≤ width → (1 ≤ w) × ((w ≤ width) × (length (groups_of h) ≤ 8))
     stock-asks m = (omega (arith, ew, header-width h ok), (m, omega (arith, listed-count, header-count h ok)))
 
-    -- a fresh commit for each
-    pub stocked : (fresh : List ℕ) → fresh_ok (width_in h) (groups_of h) fresh ≡ true → Stocked w (groups_of h) fresh
-    stocked fresh e =
-        record {
-          wide = omega (arith, ew, header-width h ok);
-          some = omega (arith, listed-count, (header-groups h ok).some);
-          few = omega (arith, listed-count, header-count h ok);
-          each = fresh-length w (groups_of h) fresh (ap (λ (W : ℕ). fresh_ok W (groups_of h) fresh) ew ∙ e);
-        }
+    -- what a stock is: some groups and few, and a fresh commit for each
+    pub stock-wide : 1 ≤ w
+    stock-wide = omega (arith, ew, header-width h ok)
+
+    pub stock-some : 1 ≤ length (groups_of h)
+    stock-some = omega (arith, listed-count, (header-groups h ok).some)
+
+    pub stock-few : length (groups_of h) ≤ 8
+    stock-few = omega (arith, listed-count, header-count h ok)
+
+    pub stock-each : (fresh : List ℕ) → fresh_ok (width_in h) (groups_of h) fresh ≡ true → length fresh ≡ w * length (groups_of h)
+    stock-each fresh e = fresh-length w (groups_of h) fresh (ap (λ (W : ℕ). fresh_ok W (groups_of h) fresh) ew ∙ e)
+
+    -- the width has room for every scalar
+    pub stock-scalars : 66 ≤ w
+    stock-scalars = omega (arith, ew, header-width h ok)
 
 -- the same of the slice in which they are lent
 module _ (w : ℕ) (gs hs fresh : List ℕ) (e : gs ≡ hs) where
   pub listed-asks : (1 ≤ w) × ((w ≤ width) × (length hs ≤ 8)) → (1 ≤ w) × ((w ≤ width) × (length gs ≤ 8))
   listed-asks a = subst (λ (l : List ℕ). (1 ≤ w) × ((w ≤ width) × (length l ≤ 8))) (sym e) a
-
-  pub listed-stocked : Stocked w hs fresh → Stocked w gs fresh
-  listed-stocked s = subst (λ (l : List ℕ). Stocked w l fresh) (sym e) s
-
-  pub listed-ready : (κ : Clock) (s : List ℕ) (m : Message) → Ready κ w s hs fresh m → Ready κ w s gs fresh m
-  listed-ready κ s m r = subst (λ (l : List ℕ). Ready κ w s l fresh m) (sym e) r
 
   pub listed-fresh : (b : Bool) → b ≡ fresh_ok w gs fresh → b ≡ fresh_ok w hs fresh
   listed-fresh b q = q ∙ ap (λ (l : List ℕ). fresh_ok w l fresh) e
@@ -121,7 +119,7 @@ range-paced κ p l =
     let most : κ.period * 2 ^ (κ.limit + 1) ≤ 1000 * 2 ^ 11 = mul-le-mul p (pow_mono high) in
     record { few = omega (arith, l); fits = lt_of_le_of_lt most (lit< tt) }
 
-paced : (κ : Clock) (h : Header) → header_ok h ≡ true → Clocked κ h → Paced κ
+pub paced : (κ : Clock) (h : Header) → header_ok h ≡ true → Clocked κ h → Paced κ
 paced κ h ok c =
     let s = settings-form _ h.settings (header-form h ok).settings in
     range-paced κ (omega (arith, c.period, (period-range _ s.period).1)) (omega (arith, c.limit, (limit-range _ s.limit).1))
@@ -178,12 +176,12 @@ module _ (t : List ℕ) (h : Header) (k : ℕ) (H : Held t h (Some k)) (w : ℕ)
       }
 
 -- a free record outside the table: as many zeros as a record has octets, of those that serve the largest
-module _ (h : Header) (ok : header_ok h ≡ true) (w : ℕ) (ew : (w ≡ width_in h) × (w ≤ width)) (n : ℕ) (en : n ≡ record_size w) where
+module _ (w : ℕ) (most : w ≤ width) (n : ℕ) (en : n ≡ record_size w) where
   abbrev blank : List ℕ
   blank = take n (replicate wide.size 0)
 
   pub blank-fits : n ≤ wide.size
-  blank-fits = omega (arith, ew.1, en)
+  blank-fits = omega (arith, most, en)
 
   blank-zeros : blank ≡ replicate n 0
   blank-zeros = take-zeros n wide.size blank-fits
@@ -192,21 +190,9 @@ module _ (h : Header) (ok : header_ok h ≡ true) (w : ℕ) (ew : (w ≡ width_i
   blank-length = sym (ap length blank-zeros ∙ length-replicate {A = ℕ} n 0)
 
   pub blank-free : decode_peer w blank ≡ no_peer
-  blank-free = ap (decode_peer w) blank-zeros ∙ no-peer-left w n ew.1 en
+  blank-free = ap (decode_peer w) blank-zeros ∙ no-peer-left w n most en
 
-  pub blank-whole : (κ : Clock) → Clocked κ h → Whole κ w blank
+  pub blank-whole : (κ : Clock) → Paced κ → Whole κ w blank
   blank-whole κ c =
       let r = subst (λ (p : Peer). InRange (κ.limit + 1) p.run) (sym blank-free) (free-range (κ.limit + 1)) in
-      record { paced = paced κ h ok c; most = ew.1; size = sym blank-length ∙ en; sync = r.0; sc = omega (arith, r.1) }
-
--- what a rule for a frame asks
-pub ready : (κ : Clock) (w : ℕ) (s : List ℕ) (h : Header) (fresh body : List ℕ) (v : View) → w ≡ width_in h → Whole κ w s → Stocks h fresh → Fitting h body v
-    → Ready κ w s (groups_of h) fresh (message_of body v)
-ready κ w s h fresh body v e W S F =
-    record {
-      record_is = W;
-      stock = stocked h S.header S.places w e fresh S.each;
-      token = F.token;
-      scalars = omega (arith, e, header-width h S.header);
-      commit = subst (λ (x : ℕ). Storable x (message_of body v).commit) (sym e) F.commit;
-    }
+      record { paced = c; most = most; size = sym blank-length ∙ en; sync = r.0; sc = omega (arith, r.1) }

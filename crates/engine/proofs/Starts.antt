@@ -8,7 +8,10 @@ use lib.ListN.{length, replicate}
 use borrow.Author.Tests.{eq-eqb, ne_eqb}
 use Rattle.octets.specs.Octets.{Bytes}
 use Rattle.std.specs.Prelude.{if◌then◌else◌, Option, Some, None, Result, Ok, Err, is_none}
-use Rattle.groups.specs.Groups.{width, fresh_ok}
+use Rattle.groups.specs.declared.stocked.Stock.{Stock}
+use Rattle.groups.specs.Groups.{width, fresh_ok, fresh_of}
+use Rattle.groups.specs.Stocked.{commits_in}
+use Rattle.record.specs.declared.Peer.{Peer}
 use Rattle.record.specs.declared.Header.{Header}
 use Rattle.record.specs.declared.Settings.{Settings}
 use Rattle.record.specs.Layout.{groups_of, width_in, decode_peer, record_size, no_peer, no_run, period_of, limit_of}
@@ -33,7 +36,7 @@ use Rattle.answers.specs.declared.Answer.{Answer}
 use Rattle.answers.specs.Answers.{Report, telling, quiet_answer, Leaves, ends, seating, refused, quiet, answered, finishes, turned}
 use Rattle.answers.proofs.Laws.{clashed, full-refused, turned-refused, turned-go}
 use Rattle.calls.specs.Calls.{crowded, full, terms_of, clock_of, brings, fresh_in, initializes, admit_start, start_turn, start_step, initiates, kill_turn, kill_step, kills}
-use Rattle.engine.specs.InSlot.{Held, Stocks, given_by, slotless, Clocked, Brought, DoesAt}
+use Rattle.engine.specs.InSlot.{Held, Stocks, Lists, given_by, slotless, Clocked, Brought, DoesAt}
 use Rattle.engine.proofs.Headers.{held-header, held-places}
 use Rattle.engine.proofs.Windows.{look-seat, seat-done}
 
@@ -140,6 +143,15 @@ start-goes t h fresh f g H e =
     let w = goes (decode_table t) f g fresh e in
     let G = subst (Held t h) w.1 H in
     (G, stocks t h g fresh G w.0)
+
+-- the commits of a stock for the header's groups
+pub stock-commits : (s : Stock) (h : Header) (fresh : List ℕ) → s.fresh.now ≡ fresh → Lists s h → commits_in s ≡ fresh_in h fresh
+stock-commits s h fresh e L i = fresh_of (L.width i) (e i)
+
+-- what a start with such a stock does
+pub stock-starts : (s : Stock) (h : Header) (fresh : List ℕ) (g : Given) (x : Said) (u t : List ℕ) (k : ℕ) (p : Peer) → s.fresh.now ≡ fresh → Lists s h
+    → DoesAt x u t k (on_start (terms g s.groups.now) (call g (commits_in s)) p) → DoesAt x u t k (on_start (terms g (groups_of h)) (call g (fresh_in h fresh)) p)
+stock-starts s h fresh g x u t k p e L d = subst (DoesAt x u t k) (λ i. on_start (terms g (L.groups i)) (call g (stock-commits s h fresh e L i)) p) d
 
 module _ (t : List ℕ) (h : Header) (f : Option ℕ) (H : Held t h f) (a : List ℕ) (time : ℕ) (fresh : List ℕ) (r : Report) where
   -- the step in the slot, finished

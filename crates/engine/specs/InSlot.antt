@@ -1,6 +1,7 @@
 -- What the code hands from one function to the next: what was loaded and tested once, and what a step does in a slot of the table.
 use Rattle.std.specs.Prelude.{◌≡◌, Bool, true, false, List, ℕ, ◌≤◌, length, if◌then◌else◌, Option, Some, None, Ok, Err, Result}
-use Rattle.groups.specs.Groups.{Storable, fresh_ok}
+use Rattle.groups.specs.declared.stocked.Stock.{Stock}
+use Rattle.groups.specs.Groups.{fresh_ok}
 use Rattle.record.specs.declared.Header.{Header}
 use Rattle.record.specs.Layout.{width_in, groups_of, period_of, limit_of}
 use Rattle.soundness.specs.Soundness.{header_ok}
@@ -11,7 +12,7 @@ use Rattle.rules.specs.declared.Said.{Said}
 use Rattle.rules.specs.Book.{Step}
 use Rattle.rules.specs.Said.{saying}
 use Rattle.message.specs.declared.View.{View}
-use Rattle.message.specs.View.{view, message_of}
+use Rattle.message.specs.View.{view}
 use Rattle.causes.specs.declared.Refusal.{Refusal}
 use Rattle.causes.specs.declared.Refusal.TheVariants as why
 use Rattle.answers.specs.Answers.{Report, Seated, refused, said}
@@ -30,10 +31,10 @@ pub record Stocks (h : Header) (fresh : List ℕ) : Type 0 where
   pub places : length h.settings.groups ≡ 3
   pub each : fresh_ok (width_in h) (groups_of h) fresh ≡ true
 
--- a frame as it was read: its token is short, and its commit is stored with the table's width without loss
-pub record Fitting (h : Header) (body : List ℕ) (v : View) : Type 0 where
-  pub token : v.toklen ≤ 256
-  pub commit : Storable (width_in h) (message_of body v).commit
+-- a stock for the header's groups, its commits stored with the width of the header's table
+pub record Lists (s : Stock) (h : Header) : Type 0 where
+  pub groups : s.groups.now ≡ groups_of h
+  pub width : s.width ≡ width_in h
 
 -- what the header and a call give a rule, the peer having a slot, or not
 abbrev pub given_by : Header → List ℕ → ℕ → List ℕ → Bool → Given

@@ -4,21 +4,23 @@
 
 ghost use Rattle.std.specs.Prelude.{◌≡◌, [], length, true};
 ghost use Rattle.octets.specs.Scan.{first_below};
+ghost use Rattle.groups.specs.Stocked.{commits_in};
 ghost use Rattle.record.specs.Layout.{groups_of, no_peer};
 ghost use Rattle.soundness.specs.Soundness.{header_ok};
 ghost use Rattle.table.specs.Table.{decode_table, slot, look_by, Reaches, Reached, Sized};
 ghost use Rattle.rules.specs.Book.{expired, on_start, on_frame, on_clock};
-ghost use Rattle.rules.specs.Given.{terms, call};
-ghost use Rattle.message.specs.View.{message_of};
+ghost use Rattle.rules.specs.Given.{terms, call, Paced};
+ghost use Rattle.message.specs.Received.{message_in, terms_in, call_in};
 ghost use Rattle.answers.specs.Answers.{Leaves, finishes, telling, told, told_if_due};
 ghost use Rattle.initial.specs.Initial.{made};
-ghost use Rattle.calls.specs.Calls.{terms_of, crowded, clock_of, fresh_in, initializes, admit_start, start_step, initiates, kill_step, kills, receives, due_slot, clock_step, expires};
-ghost use Rattle.engine.specs.InSlot.{Held, Stocks, Fitting, given_by, slotless, Clocked, Brought, AdmitsFrame, DoesAt, answers_outside};
+ghost use Rattle.calls.specs.Calls.{terms_of, crowded, clock_of, initializes, admit_start, start_step, initiates, kill_step, kills, receives, due_slot, clock_step, expires};
+ghost use Rattle.engine.specs.InSlot.{Held, Stocks, Lists, given_by, slotless, Clocked, Brought, AdmitsFrame, DoesAt, answers_outside};
 
 use answers::Answer;
 use causes::Refusal;
-use message::View;
-use record::{Header, Settings, WIDE_RECORD};
+use groups::Stock;
+use message::{Heard, View};
+use record::{Header, Record, Settings, WIDE_RECORD};
 use rules::{Clock, Frames, Given, Said};
 
 // The octets of the largest record.
@@ -79,6 +81,20 @@ fn without_slot(g: Given) -> Given
     Given { full: true, ..g }
 }
 
+// The stock that a call brings, for the header's groups.
+fn stock_of<'a>(h: &'a Header, fresh: &'a [u8]) -> Stock<'a>
+    requires { Stocks h.now fresh.now }
+    ensures { (result.fresh.now ≡ fresh.now) × Lists result h.now }
+{
+    let width = record::width_of(*h);
+    let groups = h.settings.listed();
+    Stock {
+        groups,
+        fresh,
+        width,
+    }
+}
+
 // ---- Start
 
 // The state of the run that a call is about; 0 where the address has no record.
@@ -104,8 +120,7 @@ fn admit_start(
     ensures { result ≡ admit_start (decode_table t.now) f fresh.now }
 {
     let w = record::width_of(h);
-    let settings = h.settings;
-    if !groups::fresh_ok(settings.listed(), fresh, w) {
+    if !groups::fresh_ok(h.settings.listed(), fresh, w) {
         return Err(Refusal::Fresh);
     }
     let state = state_of(t, h, f);
@@ -115,16 +130,15 @@ fn admit_start(
     Ok(f)
 }
 
-// The rule for a start, in a slot.
-fn start_at(t: &mut [u8], k: usize, h: Header, g: Given, fresh: &[u8]) -> Said
-    requires { Held t.old h (Some k) × (Stocks h fresh.now × Clocked g.clock h) }
-    ensures { DoesAt result t.new t.old k (on_start (terms g (groups_of h)) (call g (fresh_in h fresh.now)) (slot (decode_table t.old) k)) }
+// The rule for a start, in a slot. The clauses speak of the table's header, h.
+fn start_at(t: &mut [u8], k: usize, h: Header, g: Given, stock: &Stock) -> Said
+    requires { Held t.old h (Some k) × (Lists stock.now h × Clocked g.clock h) }
+    ensures { DoesAt result t.new t.old k (on_start (terms g stock.now.groups.now) (call g (commits_in stock.now)) (slot (decode_table t.old) k)) }
 {
-    let settings = h.settings;
-    let w = record::width_of(h);
+    let w = stock.width;
     let a = record::record_at(w, k);
     let e = a + record::record_size(w);
-    machine::on_start(&mut t[a..e], w, g, settings.listed(), fresh)
+    machine::on_start(&mut t[a..e], g, stock)
 }
 
 // A start that causes 2, 3, 4 and 8 do not refuse. Cause 9.
@@ -147,7 +161,8 @@ fn start(
     let was = table::standing_of(t, w, k);
     let none = [0u8; 32];
     let g = given_of(h, address, time, none, false);
-    let said = start_at(t, k, h, g, fresh);
+    let stock = stock_of(&h, fresh);
+    let said = start_at(t, k, h, g, &stock);
     Ok(answers::finish_at(t, k, h, was, said, address))
 }
 
@@ -211,8 +226,7 @@ fn admit_frame(
     ensures { AdmitsFrame result h body.now fresh.now expected.now verdict }
 {
     let w = record::width_of(h);
-    let settings = h.settings;
-    if !groups::fresh_ok(settings.listed(), fresh, w) {
+    if !groups::fresh_ok(h.settings.listed(), fresh, w) {
         return Err(Refusal::Fresh);
     }
     if expected.len() != 32 {
@@ -221,32 +235,30 @@ fn admit_frame(
     if verdict > 1 {
         return Err(Refusal::Verdict);
     }
-    message::read(settings.listed(), body).ok_or(Refusal::Body)
+    message::read(h.settings.listed(), body).ok_or(Refusal::Body)
 }
 
-// The rule for a frame, in a slot.
-fn frame_at(t: &mut [u8], k: usize, h: Header, g: Given, v: View, body: &[u8], fresh: &[u8]) -> Said
-    requires { Held t.old h (Some k) × (Stocks h fresh.now × (Clocked g.clock h × Fitting h body.now v)) }
-    ensures { DoesAt result t.new t.old k (on_frame (terms g (groups_of h)) (call g (fresh_in h fresh.now)) (slot (decode_table t.old) k) (message_of body.now v)) }
+// The rule for a frame, in a slot. The clauses speak of the table's header, h.
+fn frame_at(t: &mut [u8], k: usize, h: Header, heard: &Heard) -> Said
+    requires { Held t.old h (Some k) × (Lists heard.now.stock h × Clocked heard.now.given.clock h) }
+    ensures { DoesAt result t.new t.old k (on_frame (terms_in heard.now) (call_in heard.now) (slot (decode_table t.old) k) (message_in heard.now)) }
 {
-    let settings = h.settings;
-    let w = record::width_of(h);
+    let w = heard.stock.width;
     let a = record::record_at(w, k);
     let e = a + record::record_size(w);
-    machine::on_frame(&mut t[a..e], w, g, v, body, settings.listed(), fresh)
+    machine::on_frame(&mut t[a..e], heard)
 }
 
 // No slot is free for a new peer: the rule works on a free record outside the table.
-fn hear_outside(h: Header, g: Given, v: View, body: &[u8], fresh: &[u8]) -> Result<Answer, Refusal>
-    requires { Stocks h fresh.now × (Clocked g.clock h × Fitting h body.now v) }
-    ensures { told result ≡ answers_outside (on_frame (terms g (groups_of h)) (call g (fresh_in h fresh.now)) no_peer (message_of body.now v)) g.address }
+fn hear_outside(heard: &Heard) -> Result<Answer, Refusal>
+    requires { Paced heard.now.given.clock }
+    ensures { told result ≡ answers_outside (on_frame (terms_in heard.now) (call_in heard.now) no_peer (message_in heard.now)) heard.now.given.address }
 {
-    let settings = h.settings;
-    let address = g.address;
-    let w = record::width_of(h);
+    let address = heard.given.address;
+    let w = heard.stock.width;
     let size = record::record_size(w);
     let mut s = [0u8; MOST];
-    let said = machine::on_frame(&mut s[..size], w, g, v, body, settings.listed(), fresh);
+    let said = machine::on_frame(&mut s[..size], heard);
     if said.refused {
         return Err(Refusal::Full);
     }
@@ -258,23 +270,26 @@ fn hear(
     t: &mut [u8],
     h: Header,
     f: Option<usize>,
-    g: Given,
-    v: View,
-    body: &[u8],
-    fresh: &[u8],
+    heard: &Heard,
 ) -> Result<Answer, Refusal>
-    requires { Held t.old h f × (Stocks h fresh.now × (Brought g h × Fitting h body.now v)) }
-    ensures { Leaves (told result) t.new (finishes t.old f (on_frame (terms_of (decode_table t.old) f) (call g (fresh_in h fresh.now)) (look_by (decode_table t.old) f) (message_of body.now v)) g.address) }
+    requires { Held t.old h f × (Lists heard.now.stock h × Brought heard.now.given h) }
+    ensures { Leaves (told result) t.new (finishes t.old f (on_frame (terms_of (decode_table t.old) f) (call_in heard.now) (look_by (decode_table t.old) f) (message_in heard.now)) heard.now.given.address) }
 {
     let n = h.geometry.slots as usize;
-    let w = record::width_of(h);
+    let w = heard.stock.width;
     let Some(k) = answers::seat_of(t, w, n, f) else {
-        let slotless = without_slot(g);
-        return hear_outside(h, slotless, v, body, fresh);
+        let slotless = without_slot(heard.given);
+        let outside = Heard {
+            given: slotless,
+            view: heard.view,
+            body: heard.body,
+            stock: heard.stock,
+        };
+        return hear_outside(&outside);
     };
     let was = table::standing_of(t, w, k);
-    let said = frame_at(t, k, h, g, v, body, fresh);
-    let address = g.address;
+    let said = frame_at(t, k, h, heard);
+    let address = heard.given.address;
     Ok(answers::finish_at(t, k, h, was, said, address))
 }
 
@@ -294,8 +309,15 @@ pub fn receive(
     let h = entrance.header;
     let view = admit_frame(h, body, fresh, expected, verdict)?;
     let token = octets::take(expected, 0);
-    let g = given_of(h, address, time, token, verdict == 1);
-    hear(t, h, entrance.slot, g, view, body, fresh)
+    let given = given_of(h, address, time, token, verdict == 1);
+    let stock = stock_of(&h, fresh);
+    let heard = Heard {
+        given,
+        view,
+        body,
+        stock,
+    };
+    hear(t, h, entrance.slot, &heard)
 }
 
 // ---- Clock
@@ -306,7 +328,11 @@ fn is_expired_at(t: &[u8], w: usize, k: usize, time: u32) -> bool
 {
     let a = record::record_at(w, k);
     let e = a + record::record_size(w);
-    deadlines::is_expired(&t[a..e], w, time)
+    let peer = Record {
+        octets: &t[a..e],
+        width: w,
+    };
+    deadlines::is_expired(&peer, time)
 }
 
 fn due_below(t: &[u8], w: usize, n: usize, time: u32) -> Option<usize>
@@ -334,11 +360,10 @@ fn expire_at(t: &mut [u8], k: usize, h: Header, g: Given) -> Said
     requires { Held t.old h (Some k) × Clocked g.clock h }
     ensures { DoesAt result t.new t.old k (on_clock (terms g (groups_of h)) (call g []) (slot (decode_table t.old) k)) }
 {
-    let settings = h.settings;
     let w = record::width_of(h);
     let a = record::record_at(w, k);
     let e = a + record::record_size(w);
-    machine::on_clock(&mut t[a..e], w, g, settings.listed())
+    machine::on_clock(&mut t[a..e], w, g, h.settings.listed())
 }
 
 // The due record is served.

@@ -1,14 +1,13 @@
 // The lookups: what a host asks of a table that stays as it is: how long until the next deadline, where a record lies, and how many good links.
 #![tactic(auto)]
 
-ghost use Rattle.std.specs.Prelude.{◌≡◌, ◌≤◌, length};
-ghost use Rattle.groups.specs.Groups.{width};
-ghost use Rattle.record.specs.Layout.{decode_peer, record_size};
+ghost use Rattle.std.specs.Prelude.{◌≡◌};
+ghost use Rattle.record.specs.Reading.{peer_in};
 ghost use Rattle.table.specs.Table.{decode_table, slot, Reaches, Reached};
 ghost use Rattle.lookups.specs.Lookups.{time_left, left_if, peer_left, least_below, asks_deadline, asks_offset, asks_good};
 
 use causes::Refusal;
-use record::HEADER;
+use record::{HEADER, Record};
 use table::Entrance;
 
 // All ones: there is no deadline.
@@ -39,14 +38,13 @@ fn left_if(counts: bool, time: u32, at: u32) -> u32
 }
 
 // The time left until the earlier deadline of a record: t0 counts only with a run, t1 only with a link.
-fn peer_left(s: &[u8], w: usize, time: u32) -> u32
-    requires { (length s.now ≡ record_size w) × (w ≤ width) }
-    ensures { result ≡ peer_left (decode_peer w s.now) time }
+fn peer_left(peer: &Record, time: u32) -> u32
+    ensures { result ≡ peer_left (peer_in peer.now) time }
 {
-    let state = record::state_of(s, w);
-    let t0 = record::t0_of(s, w);
-    let finished = record::finished_of(s, w);
-    let t1 = record::t1_of(s, w);
+    let state = peer.state();
+    let t0 = peer.t0();
+    let finished = peer.finished();
+    let t1 = peer.t1();
     let run = left_if(state != 0, time, t0);
     let link = left_if(finished != 0, time, t1);
     run.min(link)
@@ -58,7 +56,11 @@ fn left_at(t: &[u8], w: usize, k: usize, time: u32) -> u32
 {
     let a = record::record_at(w, k);
     let e = a + record::record_size(w);
-    peer_left(&t[a..e], w, time)
+    let peer = Record {
+        octets: &t[a..e],
+        width: w,
+    };
+    peer_left(&peer, time)
 }
 
 // The least time left in the slots below n: one pass over the records.

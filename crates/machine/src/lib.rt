@@ -2,31 +2,29 @@
 #![tactic(auto)]
 
 ghost use Rattle.std.specs.Prelude.{[]};
-ghost use Rattle.groups.specs.Groups.{fresh_of};
+ghost use Rattle.groups.specs.Stocked.{commits_in};
 ghost use Rattle.record.specs.Layout.{decode_peer};
-ghost use Rattle.message.specs.View.{message_of};
+ghost use Rattle.message.specs.Received.{message_in, terms_in, call_in};
 ghost use Rattle.rules.specs.Book.{on_frame, on_clock, on_start};
 ghost use Rattle.rules.specs.Said.{Does};
-ghost use Rattle.rules.specs.Given.{terms, call, Whole, Stocked, Ready};
+ghost use Rattle.rules.specs.Given.{terms, call, Whole};
 
-use message::View;
+use groups::Stock;
+use message::Heard;
+use record::Record;
 use rules::{Given, Said};
 
 // A frame.
-pub fn on_frame(
-    s: &mut [u8],
-    w: usize,
-    g: Given,
-    v: View,
-    body: &[u8],
-    groups: &[u16],
-    fresh: &[u8],
-) -> Said
-    requires { Ready g.clock w s.old groups.now fresh.now (message_of body.now v) }
-    ensures { Does w result s.new (on_frame (terms g groups.now) (call g (fresh_of w fresh.now)) (decode_peer w s.old) (message_of body.now v)) }
+pub fn on_frame(s: &mut [u8], heard: &Heard) -> Said
+    requires { Whole heard.now.given.clock heard.now.stock.width s.old }
+    ensures { Does heard.now.stock.width result s.new (on_frame (terms_in heard.now) (call_in heard.now) (decode_peer heard.now.stock.width s.old) (message_in heard.now)) }
 {
-    let act = decide::frame(s, w, g, v, body, groups, fresh);
-    perform::perform(s, w, g, v, body, groups, fresh, act)
+    let peer = Record {
+        octets: s,
+        width: heard.stock.width,
+    };
+    let act = decide::frame(&peer, heard);
+    perform::perform(s, heard, act)
 }
 
 // A deadline of the record is due: "t0 before t1". No frame is there to be decided on, so the ladder's two rungs stand here.
@@ -36,11 +34,15 @@ pub fn on_clock(s: &mut [u8], w: usize, g: Given, groups: &[u16]) -> Said
 {
     let clock = g.clock;
     let time = clock.time;
-    let first = deadlines::t0_due(s, w, time);
+    let peer = Record {
+        octets: s,
+        width: w,
+    };
+    let first = deadlines::t0_due(&peer, time);
     if !first {
         return acts::end_link(s, w);
     }
-    let state = record::state_of(s, w);
+    let state = peer.state();
     if state == 2 {
         return perform::confirm_again(s, w, clock);
     }
@@ -48,9 +50,9 @@ pub fn on_clock(s: &mut [u8], w: usize, g: Given, groups: &[u16]) -> Said
 }
 
 // A start: the ladder's one rung, and the act.
-pub fn on_start(s: &mut [u8], w: usize, g: Given, groups: &[u16], fresh: &[u8]) -> Said
-    requires { Whole g.clock w s.old × Stocked w groups.now fresh.now }
-    ensures { Does w result s.new (on_start (terms g groups.now) (call g (fresh_of w fresh.now)) (decode_peer w s.old)) }
+pub fn on_start(s: &mut [u8], g: Given, stock: &Stock) -> Said
+    requires { Whole g.clock stock.now.width s.old }
+    ensures { Does stock.now.width result s.new (on_start (terms g stock.now.groups.now) (call g (commits_in stock.now)) (decode_peer stock.now.width s.old)) }
 {
     let full = g.full;
     if full {
@@ -58,5 +60,5 @@ pub fn on_start(s: &mut [u8], w: usize, g: Given, groups: &[u16], fresh: &[u8]) 
     }
     let address = g.address;
     let clock = g.clock;
-    perform::begin(s, w, address, groups, fresh, clock)
+    perform::begin(s, address, stock, clock)
 }

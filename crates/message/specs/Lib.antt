@@ -1,2 +1,3 @@
 -- What the contracts of `message` cite.
 pub mod View
+pub mod Received

@@ -2,10 +2,10 @@
 use Rattle.std.specs.Prelude.{Option, Some, None}
 use mathlib.Core.Path.{◌≡◌, refl, subst}
 use mathlib.Core.List.{List}
-use Prim.Native.Nat.{ℕ, ◌+◌, ◌*◌, ◌≤◌}
+use Prim.Native.Nat.{ℕ, ◌<◌}
 use lib.ListN.{length}
 use Rattle.groups.specs.Groups.{first_left, index_of, mark, fresh_at}
-use Rattle.groups.proofs.Laws.{chosen, room_in}
+use Rattle.groups.proofs.Laws.{chosen}
 use Rattle.record.specs.declared.Peer.{Peer}
 use Rattle.rules.specs.declared.Clock.{Clock}
 use Rattle.rules.specs.declared.Frames.TheVariants.{One}
@@ -14,11 +14,9 @@ use Rattle.rules.specs.Parts.{switched}
 use Rattle.rules.specs.Book.{commit_frame, sending, abandoning, switching_to, switching}
 use Rattle.rules.specs.Said.{Does}
 
-pub switch-room :
-    (W : ℕ) (gs : List ℕ) (n rejected k g : ℕ) (x : Option (ℕ × ℕ)) → x ≡ first_left gs 0 rejected → x ≡ Some (k, g) → n ≡ W * length gs → W * k + W ≤ n
-switch-room W gs n rejected k g x a b h =
-    let e : first_left gs 0 rejected ≡ Some (k, g) = cc in
-    room_in W k (length gs) n (chosen gs rejected k g e).0 h
+-- what is left lies within the list
+pub switch-room : (gs : List ℕ) (rejected k g : ℕ) (x : Option (ℕ × ℕ)) → x ≡ first_left gs 0 rejected → x ≡ Some (k, g) → k < length gs
+switch-room gs rejected k g x a b = let e : first_left gs 0 rejected ≡ Some (k, g) = cc in (chosen gs rejected k g e).0
 
 to-group : (κ : Clock) (p : Peer) (rejected k g : ℕ) (fresh : List (List ℕ)) →
     switching_to κ p rejected (Some (k, g)) fresh ≡ sending κ p (switched p.run rejected g (fresh_at fresh k)) (One (commit_frame g)) g

@@ -1,22 +1,26 @@
 // The acts of the rule book by their names, in a record's own octets: what only one act does, and `perform`, which does the one that is named.
+// The octets that an act writes, `s`, stand beside the width `w`, or beside what the call gives, which has the width: a struct that held the `&mut` would ask
+// each function here for a clause more, that the field is still the reference that came in. What only reads makes a `Record` of them.
 #![tactic(auto)]
 
 ghost use Rattle.std.specs.Prelude.{◌≡◌, ◌+◌, ◌≤◌, ◌<◌, length, get_or};
-ghost use Rattle.groups.specs.Groups.{width, stored, Storable, fresh_of, fresh_at, fresh_for};
+ghost use Rattle.groups.specs.Groups.{width, stored, fresh_at, fresh_for};
+ghost use Rattle.groups.specs.Stocked.{commits_in};
 ghost use Rattle.record.specs.Layout.{decode_run, decode_link, decode_peer, run_size, link_size, record_size};
 ghost use Rattle.rules.specs.declared.Frames.TheVariants.{One};
 ghost use Rattle.rules.specs.Parts.{with_token, switched, heard_again, with_link};
 ghost use Rattle.rules.specs.Book.{commit_frame, token_request_frame, group_refusal_frame, set_t0, sending, answering, started_run, starting, switching, answering_commit, confirming_commit, replying_token, repeating_commit, repeating_refusal, confirming_again, resending_both, hearing_last, hearing_again};
 ghost use Rattle.rules.specs.Book.{perform as performed};
 ghost use Rattle.rules.specs.Said.{saying_frames, Does};
-ghost use Rattle.message.specs.View.{message_of};
-ghost use Rattle.rules.specs.Given.{terms, call, Paced, Whole, Stocked, Ready, Able};
+ghost use Rattle.message.specs.Received.{message_in, terms_in, call_in};
+ghost use Rattle.rules.specs.Given.{Paced, Whole, Able};
 
-use message::View;
+use groups::Stock;
+use message::Heard;
 use record::{
-    ADDRESS, GROUP, LINK_SYNC, RC, REJECTED, RUN, RUN_OWN, STATE, SYNC, T0, TOKLEN, USED,
+    ADDRESS, GROUP, LINK_SYNC, RC, REJECTED, RUN, RUN_OWN, Record, STATE, SYNC, T0, TOKLEN, USED,
 };
-use rules::{Act, Clock, Event, Frames, Given, Said};
+use rules::{Act, Clock, Event, Frames, Said};
 
 // ---- Begin
 
@@ -51,20 +55,14 @@ fn start(s: &mut [u8], w: usize, address: [u8; 6], group: u16, own: &[u8], clock
 }
 
 // "Committed, first group, fresh commit, Sync 0, no token, send Commit, set t0."
-pub fn begin(
-    s: &mut [u8],
-    w: usize,
-    address: [u8; 6],
-    groups: &[u16],
-    fresh: &[u8],
-    clock: Clock,
-) -> Said
-    requires { Paced clock × ((length s.old ≡ record_size w) × ((w ≤ width) × Stocked w groups.now fresh.now)) }
-    ensures { Does w result s.new (starting clock (decode_peer w s.old) address (get_or groups.now 0 0) (fresh_at (fresh_of w fresh.now) 0)) }
+pub fn begin(s: &mut [u8], address: [u8; 6], stock: &Stock, clock: Clock) -> Said
+    requires { Paced clock × (length s.old ≡ record_size stock.now.width) }
+    ensures { Does stock.now.width result s.new (starting clock (decode_peer stock.now.width s.old) address (get_or stock.now.groups.now 0 0) (fresh_at (commits_in stock.now) 0)) }
 {
+    let groups = stock.groups;
     let group = groups[0];
-    let own = groups::fresh_at(fresh, w, 0);
-    start(s, w, address, group, own, clock)
+    let own = stock.fresh_at(0);
+    start(s, stock.width, address, group, own, clock)
 }
 
 // ---- RefuseGroup, AskToken, NoSlot
@@ -88,24 +86,17 @@ fn ask_token(group: u16) -> Said
 // ---- AnswerCommit, ConfirmCommit
 
 // "fresh commit, Form, send Commit and Confirm".
-fn answer_commit(
-    s: &mut [u8],
-    w: usize,
-    g: Given,
-    v: View,
-    body: &[u8],
-    groups: &[u16],
-    fresh: &[u8],
-) -> Said
-    requires { Ready g.clock w s.old groups.now fresh.now (message_of body.now v) }
-    ensures { Does w result s.new (answering_commit g.clock (decode_peer w s.old) g.address (message_of body.now v) (fresh_for groups.now (fresh_of w fresh.now) v.group)) }
+fn answer_commit(s: &mut [u8], heard: &Heard) -> Said
+    requires { Whole heard.now.given.clock heard.now.stock.width s.old }
+    ensures { Does heard.now.stock.width result s.new (answering_commit heard.now.given.clock (decode_peer heard.now.stock.width s.old) heard.now.given.address (message_in heard.now) (fresh_for heard.now.stock.groups.now (commits_in heard.now.stock) heard.now.view.group)) }
 {
-    let address = g.address;
-    let clock = g.clock;
-    let group = v.group;
+    let w = heard.stock.width;
+    let address = heard.given.address;
+    let clock = heard.given.clock;
+    let group = heard.view.group;
     let at = record::link_at(w);
-    let own = groups::fresh_for(groups, fresh, w, group);
-    let heard = message::commit(body, v);
+    let own = heard.stock.fresh_for(group);
+    let theirs = heard.commit();
     let commit = acts::commit_frame(group);
     let confirm = acts::confirm_frame(1);
     acts::store_own(&mut s[RUN..at], w, own);
@@ -114,7 +105,7 @@ fn answer_commit(
         w,
         address,
         group,
-        heard,
+        theirs,
         Frames::Two(commit, confirm),
         group,
         clock,
@@ -122,24 +113,17 @@ fn answer_commit(
 }
 
 // "Form, send Confirm".
-fn confirm_commit(s: &mut [u8], w: usize, g: Given, v: View, body: &[u8]) -> Said
-    requires { Paced g.clock × ((length s.old ≡ record_size w) × ((w ≤ width) × Storable w (message_of body.now v).commit)) }
-    ensures { Does w result s.new (confirming_commit g.clock (decode_peer w s.old) g.address (message_of body.now v)) }
+fn confirm_commit(s: &mut [u8], heard: &Heard) -> Said
+    requires { Whole heard.now.given.clock heard.now.stock.width s.old }
+    ensures { Does heard.now.stock.width result s.new (confirming_commit heard.now.given.clock (decode_peer heard.now.stock.width s.old) heard.now.given.address (message_in heard.now)) }
 {
-    let address = g.address;
-    let clock = g.clock;
-    let heard = message::commit(body, v);
+    let w = heard.stock.width;
+    let address = heard.given.address;
+    let clock = heard.given.clock;
+    let group = heard.view.group;
+    let theirs = heard.commit();
     let confirm = acts::confirm_frame(1);
-    acts::form_pair(
-        s,
-        w,
-        address,
-        v.group,
-        heard,
-        Frames::One(confirm),
-        0,
-        clock,
-    )
+    acts::form_pair(s, w, address, group, theirs, Frames::One(confirm), 0, clock)
 }
 
 // ---- SwitchGroup
@@ -173,17 +157,23 @@ fn switch_to(s: &mut [u8], w: usize, rejected: u8, group: u16, own: &[u8], clock
 }
 
 // "mark it rejected and take the first group in its own list that is not marked as rejected, with a fresh commit; none, give up."
-fn switch_group(s: &mut [u8], w: usize, groups: &[u16], fresh: &[u8], clock: Clock) -> Said
-    requires { Whole clock w s.old × Stocked w groups.now fresh.now }
-    ensures { Does w result s.new (switching clock (decode_peer w s.old) groups.now (fresh_of w fresh.now)) }
+fn switch_group(s: &mut [u8], stock: &Stock, clock: Clock) -> Said
+    requires { Whole clock stock.now.width s.old }
+    ensures { Does stock.now.width result s.new (switching clock (decode_peer stock.now.width s.old) stock.now.groups.now (commits_in stock.now)) }
 {
-    let ours = record::group_of(s, w);
-    let before = record::rejected_of(s, w);
+    let w = stock.width;
+    let groups = stock.groups;
+    let peer = Record {
+        octets: s,
+        width: w,
+    };
+    let ours = peer.group();
+    let before = peer.rejected();
     let i = groups::index_of(groups, ours);
     let rejected = groups::marked_with(before, i);
     match groups::first_left(groups, rejected) {
         Some((k, group)) => {
-            let own = groups::fresh_at(fresh, w, k);
+            let own = stock.fresh_at(k);
             switch_to(s, w, rejected, group, own, clock)
         }
         None => acts::abandon(s, w),
@@ -197,8 +187,12 @@ pub fn repeat_commit(s: &mut [u8], w: usize, clock: Clock) -> Said
     requires { Paced clock × ((length s.old ≡ record_size w) × (w ≤ width)) }
     ensures { Does w result s.new (repeating_commit clock (decode_peer w s.old)) }
 {
-    let group = record::group_of(s, w);
-    let sc = record::sc_of(s, w);
+    let peer = Record {
+        octets: s,
+        width: w,
+    };
+    let group = peer.group();
+    let sc = peer.sc();
     let commit = acts::commit_frame(group);
     acts::retransmit(s, w, sc, Frames::One(commit), clock)
 }
@@ -208,7 +202,11 @@ fn repeat_refusal(s: &mut [u8], w: usize, group: u16, clock: Clock) -> Said
     requires { Paced clock × ((length s.old ≡ record_size w) × (w ≤ width)) }
     ensures { Does w result s.new (repeating_refusal clock (decode_peer w s.old) group) }
 {
-    let sc = record::sc_of(s, w);
+    let peer = Record {
+        octets: s,
+        width: w,
+    };
+    let sc = peer.sc();
     let refusal = acts::group_refusal_frame(group);
     acts::retransmit(s, w, sc, Frames::One(refusal), clock)
 }
@@ -218,7 +216,11 @@ pub fn confirm_again(s: &mut [u8], w: usize, clock: Clock) -> Said
     requires { Whole clock w s.old }
     ensures { Does w result s.new (confirming_again clock (decode_peer w s.old)) }
 {
-    let sc = record::sc_of(s, w) + 1;
+    let peer = Record {
+        octets: s,
+        width: w,
+    };
+    let sc = peer.sc() + 1;
     let confirm = acts::confirm_frame(sc);
     acts::retransmit(s, w, sc, Frames::One(confirm), clock)
 }
@@ -228,9 +230,13 @@ fn resend_both(s: &mut [u8], w: usize, clock: Clock) -> Said
     requires { Whole clock w s.old × ((decode_peer w s.old).run.sync ≤ clock.limit) }
     ensures { Does w result s.new (resending_both clock (decode_peer w s.old)) }
 {
-    let group = record::group_of(s, w);
-    let sync = record::sync_of(s, w) + 1;
-    let sc = record::sc_of(s, w) + 1;
+    let peer = Record {
+        octets: s,
+        width: w,
+    };
+    let group = peer.group();
+    let sync = peer.sync() + 1;
+    let sc = peer.sc() + 1;
     let commit = acts::commit_frame(group);
     let confirm = acts::confirm_frame(sc);
     acts::send_counted(s, w, sync, sc, Frames::Two(commit, confirm), clock)
@@ -249,13 +255,16 @@ fn store_token(r: &mut [u8], w: usize, toklen: u16, token: [u8; 256])
 }
 
 // "store the token, send Commit with it", a Repeat: where that gives up, the run is cleared, and the token with it.
-fn reply_token(s: &mut [u8], w: usize, v: View, body: &[u8], clock: Clock) -> Said
-    requires { Paced clock × ((length s.old ≡ record_size w) × ((w ≤ width) × (v.toklen ≤ 256))) }
-    ensures { Does w result s.new (replying_token clock (decode_peer w s.old) (message_of body.now v)) }
+fn reply_token(s: &mut [u8], heard: &Heard) -> Said
+    requires { Whole heard.now.given.clock heard.now.stock.width s.old }
+    ensures { Does heard.now.stock.width result s.new (replying_token heard.now.given.clock (decode_peer heard.now.stock.width s.old) (message_in heard.now)) }
 {
-    let token = message::token(body, v);
+    let w = heard.stock.width;
+    let clock = heard.given.clock;
+    let toklen = heard.view.toklen;
+    let token = heard.token();
     let at = record::link_at(w);
-    store_token(&mut s[RUN..at], w, v.toklen, token);
+    store_token(&mut s[RUN..at], w, toklen, token);
     repeat_commit(s, w, clock)
 }
 
@@ -286,7 +295,11 @@ fn hear_last(s: &mut [u8], w: usize, counter: u16) -> Said
     requires { (length s.old ≡ record_size w) × (w ≤ width) }
     ensures { Does w result s.new (hearing_last (decode_peer w s.old) counter) }
 {
-    let sync = record::link_sync_of(s, w);
+    let peer = Record {
+        octets: s,
+        width: w,
+    };
+    let sync = peer.link_sync();
     hear(s, w, counter, sync, Frames::None)
 }
 
@@ -295,46 +308,44 @@ fn hear_again(s: &mut [u8], w: usize, counter: u16) -> Said
     requires { (length s.old ≡ record_size w) × ((w ≤ width) × ((decode_peer w s.old).link.sync < 255)) }
     ensures { Does w result s.new (hearing_again (decode_peer w s.old) counter) }
 {
-    let sync = record::link_sync_of(s, w) + 1;
+    let peer = Record {
+        octets: s,
+        width: w,
+    };
+    let sync = peer.link_sync() + 1;
     let confirm = acts::confirm_frame(65535);
     hear(s, w, counter, sync, Frames::One(confirm))
 }
 
 // ---- each act by its name
 
-pub fn perform(
-    s: &mut [u8],
-    w: usize,
-    g: Given,
-    v: View,
-    body: &[u8],
-    groups: &[u16],
-    fresh: &[u8],
-    act: Act,
-) -> Said
-    requires { Ready g.clock w s.old groups.now fresh.now (message_of body.now v) × Able g.clock act (decode_peer w s.old) }
-    ensures { Does w result s.new (performed (terms g groups.now) (call g (fresh_of w fresh.now)) (decode_peer w s.old) (message_of body.now v) act) }
+pub fn perform(s: &mut [u8], heard: &Heard, act: Act) -> Said
+    requires { Whole heard.now.given.clock heard.now.stock.width s.old × Able heard.now.given.clock act (decode_peer heard.now.stock.width s.old) }
+    ensures { Does heard.now.stock.width result s.new (performed (terms_in heard.now) (call_in heard.now) (decode_peer heard.now.stock.width s.old) (message_in heard.now) act) }
 {
-    let address = g.address;
-    let clock = g.clock;
+    let w = heard.stock.width;
+    let address = heard.given.address;
+    let clock = heard.given.clock;
+    let group = heard.view.group;
+    let counter = heard.view.counter;
     match act {
         Act::Drop => acts::say_frames(Frames::None),
-        Act::RefuseGroup => refuse_group(v.group),
-        Act::AskToken => ask_token(v.group),
+        Act::RefuseGroup => refuse_group(group),
+        Act::AskToken => ask_token(group),
         Act::NoSlot => acts::say_refused(),
-        Act::AnswerCommit => answer_commit(s, w, g, v, body, groups, fresh),
-        Act::ConfirmCommit => confirm_commit(s, w, g, v, body),
-        Act::ReplyToken => reply_token(s, w, v, body, clock),
-        Act::SwitchGroup => switch_group(s, w, groups, fresh, clock),
+        Act::AnswerCommit => answer_commit(s, heard),
+        Act::ConfirmCommit => confirm_commit(s, heard),
+        Act::ReplyToken => reply_token(s, heard),
+        Act::SwitchGroup => switch_group(s, &heard.stock, clock),
         Act::RepeatCommit => repeat_commit(s, w, clock),
-        Act::RepeatRefusal => repeat_refusal(s, w, v.group, clock),
+        Act::RepeatRefusal => repeat_refusal(s, w, group, clock),
         Act::ResendBoth => resend_both(s, w, clock),
         Act::ConfirmAgain => confirm_again(s, w, clock),
         Act::GiveUp => acts::abandon(s, w),
-        Act::Accept => acts::accept(s, w, v.counter, clock.time),
-        Act::HearAgain => hear_again(s, w, v.counter),
-        Act::HearLast => hear_last(s, w, v.counter),
+        Act::Accept => acts::accept(s, w, counter, clock.time),
+        Act::HearAgain => hear_again(s, w, counter),
+        Act::HearLast => hear_last(s, w, counter),
         Act::EndLink => acts::end_link(s, w),
-        Act::Begin => begin(s, w, address, groups, fresh, clock),
+        Act::Begin => begin(s, address, &heard.stock, clock),
     }
 }

@@ -107,6 +107,9 @@ module _ (W : ℕ) (s : List ℕ) (a e : ℕ) (h : length s ≡ record_size W) w
   unfolding part
   link-peer-part p q = let n : e - a ≡ W = omega arith in rw (n, p) (length_part s (link_at W + (12 + W)) W (omega arith), sym (link-peer-law W s))
 
+-- what reads a field where it lies
+pub ruleset reads = (state-law, sync-law, rejected-law, sc-law, group-law, t0-law, toklen-law, finished-law, link-sync-law, link-group-law, rc-law, t1-law, token-part, link-peer-part)
+
 -- ---- a field of many replaced
 
 cut-after : (ws s : List ℕ) (b at : ℕ) (v : List ℕ) → at + length v ≤ length s → at + length v ≤ b → cut b ws (put s at v) ≡ cut b ws s

@@ -1,9 +1,8 @@
 -- What the code hands to a ladder and to an act, as the book sees it; and what it asks of that.
 use Rattle.std.specs.Prelude.{◌≡◌, List, ℕ, ◌+◌, ◌*◌, ◌^◌, ◌≤◌, ◌<◌, length}
-use Rattle.groups.specs.Groups.{width, Storable}
+use Rattle.groups.specs.Groups.{width}
 use Rattle.record.specs.declared.Peer.{Peer}
 use Rattle.record.specs.Layout.{decode_peer, record_size}
-use Rattle.rules.specs.Message.{Message}
 use Rattle.rules.specs.declared.Clock.{Clock}
 use Rattle.rules.specs.declared.Given.{Given}
 use Rattle.rules.specs.declared.Act.{Act}
@@ -28,21 +27,6 @@ pub record Whole (κ : Clock) (W : ℕ) (s : List ℕ) : Type 0 where
   pub size : length s ≡ record_size W
   pub sync : (decode_peer W s).run.sync ≤ κ.limit + 1
   pub sc : (decode_peer W s).run.sc ≤ κ.limit + 2
-
--- a fresh commit for each of some groups, few enough for their marks
-pub record Stocked (W : ℕ) (groups fresh : List ℕ) : Type 0 where
-  pub wide : 1 ≤ W
-  pub some : 1 ≤ length groups
-  pub few : length groups ≤ 8
-  pub each : length fresh ≡ W * length groups
-
--- what a rule asks for: of the width, that it has room for every scalar, and that it stores the frame's commit without loss
-pub record Ready (κ : Clock) (W : ℕ) (s groups fresh : List ℕ) (m : Message) : Type 0 where
-  pub record_is : Whole κ W s
-  pub stock : Stocked W groups fresh
-  pub token : m.toklen ≤ 256
-  pub scalars : 66 ≤ W
-  pub commit : Storable W m.commit
 
 -- what two acts ask of the record beside: their ladders have tested it
 pub record Able (κ : Clock) (a : Act) (p : Peer) : Type 0 where

@@ -59,10 +59,10 @@ module _ (t : List ℕ) (q x g n : ℕ) (token rest out : List ℕ) where
 -- ---- from a record: its Commit, its Confirm, from the fields as they are read
 
 -- as many octets as a run's token and its group's commit have lie in the record
-module _ (s : List ℕ) (W : ℕ) (B : Bounded s W) (state : ℕ) (es : state ≡ (decode_peer W s).run.state) (d : state ≡ 0 → ⊥) where
+module _ (s : List ℕ) (W : ℕ) (h : length s ≡ record_size W) (B : Bounded (decode_peer W s) W) (state : ℕ) (es : state ≡ (decode_peer W s).run.state) (d : state ≡ 0 → ⊥) where
   pub token-held : (m : ℕ) (token : List ℕ) → m ≡ (decode_peer W s).run.toklen → token ≡ (decode_peer W s).run.token → m ≤ length token
   token-held m token em et =
-      let l : length token ≡ 256 = ap length (et ∙ token-law W s) ∙ length_part s (7 + (13 + W + W)) 256 (omega (arith, B.size)) in
+      let l : length token ≡ 256 = ap length (et ∙ token-law W s) ∙ length_part s (7 + (13 + W + W)) 256 (omega (arith, h)) in
       omega (arith, em, l, B.token (λ z. d (es ∙ z)))
 
   pub own_held : (g n : ℕ) (own : List ℕ) → g ≡ (decode_peer W s).run.group → n ≡ commit_length g → length own ≡ W → n ≤ length own
@@ -166,13 +166,14 @@ module _ (t a : List ℕ) (r : Entrance) (E : Enters r t a) (k : ℕ) (at : r.sl
       in_window : decode_peer w (take (b + n - b) (drop b t)) ≡ slot (decode_table t) k
       in_window = window-law t w k b at-reached eb n en
 
-      pub at-bounded : Bounded (take (b + n - b) (drop b t)) w
+      pub at-whole : length (take (b + n - b) (drop b t)) ≡ record_size w
+      at-whole = window-length t w k b at-reached eb n en
+
+      pub at-bounded : Bounded (decode_peer w (take (b + n - b) (drop b t))) w
       at-bounded =
           let u : ((slot (decode_table t) k).run.state ≡ 0 → ⊥) → (listed (groups_of (decode_table t).header) (slot (decode_table t) k).run.group ≡ true) × ((slot (decode_table t) k).run.toklen ≤ 256) =
           run-names _ _ _ _ (in-use-at t a k here) in
           record {
-            size = window-length t w k b at-reached eb n en;
-            most = W.1;
             token = subst (λ (x : Peer). (x.run.state ≡ 0 → ⊥) → x.run.toklen ≤ 256) (sym in_window) (λ d. (u d).1);
             own = subst (λ (x : Peer). (x.run.state ≡ 0 → ⊥) → commit_length x.run.group ≤ w) (sym in_window) (λ d. roomy _ (u d).0);
           }

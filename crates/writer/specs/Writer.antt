@@ -1,9 +1,9 @@
 -- The writer: from a frame's parts, or from a record; what it answers and what it leaves of the lent buffer.
-use Rattle.std.specs.Prelude.{◌≡◌, List, ℕ, ◌≤◌, length, take, if◌then◌else◌, Result, Ok, Err, Option, Some, None}
-use Rattle.groups.specs.Groups.{width, commit_length}
+use Rattle.std.specs.Prelude.{◌≡◌, List, ℕ, ◌≤◌, take, if◌then◌else◌, Result, Ok, Err, Option, Some, None}
+use Rattle.groups.specs.Groups.{commit_length}
 use Rattle.frame.specs.Writing.{Drawn, Outside, draw_commit, draw_confirm, parts_body, written, leaves}
 use Rattle.record.specs.declared.Peer.{Peer}
-use Rattle.record.specs.Layout.{decode_peer, record_size, groups_of}
+use Rattle.record.specs.Layout.{groups_of}
 use Rattle.table.specs.Table.{decode_table, slot, sound, entry}
 use Rattle.rules.specs.Book.{◌is◌, ◌isnt◌}
 use Rattle.causes.specs.declared.Refusal.{Refusal}
@@ -55,13 +55,10 @@ record_body groups p sequence value =
     else if sequence is 2 then record_confirm p value
     else Outside
 
--- what the writer of a record asks of its octets, and those of a sound table's record have: their length, a width that values have room for, and of a run
--- a token of at most 256 octets and a group whose commits the width has room for
-pub record Bounded (s : List ℕ) (W : ℕ) : Type 0 where
-  pub size : length s ≡ record_size W
-  pub most : W ≤ width
-  pub token : ((decode_peer W s).run.state ≡ 0 → ⊥) → (decode_peer W s).run.toklen ≤ 256
-  pub own : ((decode_peer W s).run.state ≡ 0 → ⊥) → commit_length (decode_peer W s).run.group ≤ W
+-- what the writer of a record asks of a run in it, and one of a sound table has: a token of at most 256 octets, and a group whose commits the width has room for
+pub record Bounded (p : Peer) (W : ℕ) : Type 0 where
+  pub token : (p.run.state ≡ 0 → ⊥) → p.run.toklen ≤ 256
+  pub own : (p.run.state ≡ 0 → ⊥) → commit_length p.run.group ≤ W
 
 unfoldable pub writes_record_by : Result (Option ℕ) Refusal → List ℕ → ℕ → List ℕ → List ℕ → LeftOut
 writes_record_by (Err c) t sequence value out = refuse_out out c

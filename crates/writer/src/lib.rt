@@ -1,13 +1,13 @@
 // The writer: a frame from its parts, or from a peer's record, into a lent buffer.
 #![tactic(auto)]
 
-ghost use Rattle.std.specs.Prelude.{◌≡◌, ◌≤◌, length};
+ghost use Rattle.std.specs.Prelude.{◌≡◌};
 ghost use Rattle.frame.specs.Writing.{Writes};
-ghost use Rattle.groups.specs.Groups.{width};
-ghost use Rattle.record.specs.Layout.{decode_peer, record_size};
+ghost use Rattle.record.specs.Reading.{peer_in};
 ghost use Rattle.writer.specs.Writer.{LeavesOut, writes_parts, record_commit, record_confirm, record_body, Bounded, writes_record};
 
 use causes::Refusal;
+use record::Record;
 use table::Entrance;
 
 // Write a frame from its parts. Causes 2, 7, 11.
@@ -37,36 +37,35 @@ pub fn write_parts(
 }
 
 // The run's Commit.
-fn write_run_commit(groups: &[u16], s: &[u8], w: usize, out: &mut [u8]) -> Result<usize, Refusal>
-    requires { Bounded s.now w }
-    ensures { Writes (record_commit groups.now (decode_peer w s.now)) out.old out.new result }
+fn write_run_commit(groups: &[u16], peer: &Record, out: &mut [u8]) -> Result<usize, Refusal>
+    requires { Bounded (peer_in peer.now) peer.now.width }
+    ensures { Writes (record_commit groups.now (peer_in peer.now)) out.old out.new result }
 {
-    let state = record::state_of(s, w);
+    let state = peer.state();
     if state == 0 {
         return Err(Refusal::Body);
     }
-    let group = record::group_of(s, w);
-    let token = record::token_of(s, w);
-    let m = record::toklen_of(s, w) as usize;
-    let own = record::own_of(s, w);
+    let group = peer.group();
+    let token = peer.token();
+    let m = peer.toklen() as usize;
+    let own = peer.own();
     let l = groups::commit_length(group);
     frame::write_commit(groups, group, &token[..m], &own[..l], out)
 }
 
 // The Confirm: Sc of a run in Confirmed, 65,535 of a link with no run.
-fn write_record_confirm(s: &[u8], w: usize, value: &[u8], out: &mut [u8]) -> Result<usize, Refusal>
-    requires { (length s.now ≡ record_size w) × (w ≤ width) }
-    ensures { Writes (record_confirm (decode_peer w s.now) value.now) out.old out.new result }
+fn write_record_confirm(peer: &Record, value: &[u8], out: &mut [u8]) -> Result<usize, Refusal>
+    ensures { Writes (record_confirm (peer_in peer.now) value.now) out.old out.new result }
 {
-    let state = record::state_of(s, w);
+    let state = peer.state();
     if state == 2 {
-        let sc = record::sc_of(s, w);
+        let sc = peer.sc();
         return frame::write_confirm(sc, value, out);
     }
     if state != 0 {
         return Err(Refusal::Body);
     }
-    let finished = record::finished_of(s, w);
+    let finished = peer.finished();
     if finished != 0 {
         return frame::write_confirm(65535, value, out);
     }
@@ -74,22 +73,15 @@ fn write_record_confirm(s: &[u8], w: usize, value: &[u8], out: &mut [u8]) -> Res
 }
 
 // Which of a record's frames is wanted.
-fn write_peer(
-    groups: &[u16],
-    s: &[u8],
-    w: usize,
-    sequence: u16,
-    value: &[u8],
-    out: &mut [u8],
-) -> Result<usize, Refusal>
-    requires { Bounded s.now w }
-    ensures { Writes (record_body groups.now (decode_peer w s.now) sequence value.now) out.old out.new result }
+fn write_peer(groups: &[u16], peer: &Record, sequence: u16, value: &[u8], out: &mut [u8]) -> Result<usize, Refusal>
+    requires { Bounded (peer_in peer.now) peer.now.width }
+    ensures { Writes (record_body groups.now (peer_in peer.now) sequence value.now) out.old out.new result }
 {
     if sequence == 1 {
-        return write_run_commit(groups, s, w, out);
+        return write_run_commit(groups, peer, out);
     }
     if sequence == 2 {
-        return write_record_confirm(s, w, value, out);
+        return write_record_confirm(peer, value, out);
     }
     Err(Refusal::Body)
 }
@@ -111,5 +103,9 @@ pub fn write_record(
     let w = record::width_of(header);
     let a = record::record_at(w, k);
     let e = a + record::record_size(w);
-    write_peer(header.settings.listed(), &t[a..e], w, sequence, value, out)
+    let peer = Record {
+        octets: &t[a..e],
+        width: w,
+    };
+    write_peer(header.settings.listed(), &peer, sequence, value, out)
 }

@@ -4,4 +4,4 @@ use Rattle.deadlines.proofs.is_expired.Goals as goal
 
 pub returns : goal.returns
 unfolding expired t1_due
-returns c = rw (c.is_due-late.ensures, c.t1_of-at.ensures, c.finished_of-finished.ensures, c.t0_due-early.ensures) refl
+returns c = rw (c.is_due-late.ensures, c.t1-at.ensures, c.finished-finished.ensures, c.t0_due-early.ensures) refl

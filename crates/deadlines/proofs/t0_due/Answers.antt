@@ -4,4 +4,4 @@ use Rattle.deadlines.proofs.t0_due.Goals as goal
 
 pub returns : goal.returns
 unfolding t0_due
-returns c = rw (c.is_due-due.ensures, c.t0_of-at.ensures, c.state_of-state.ensures) refl
+returns c = rw (c.is_due-due.ensures, c.t0-at.ensures, c.state-state.ensures) refl

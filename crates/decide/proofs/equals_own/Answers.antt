@@ -3,4 +3,5 @@ use borrow.Author.Rules.{rules}
 use Rattle.decide.proofs.equals_own.Goals as goal
 
 pub returns : goal.returns
-returns c = same-commit-law _ _ _ _ _ _ (search rules) c.commit-heard.ensures.0 c.commit-heard.ensures.1 (search rules) c.own_of-own.ensures.0 c.own_of-own.ensures.1 c.same_front.ensures
+returns c =
+    same-commit-law _ _ _ _ _ _ (search rules) c.commit-commit.ensures.0 c.commit-commit.ensures.1 (search rules) c.own-own.ensures.0 c.own-own.ensures.1 c.same_front.ensures

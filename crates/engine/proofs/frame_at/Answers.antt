@@ -1,48 +1,40 @@
-use Prim.Native.Nat.{ℕ}
+use Prim.Native.Nat.{ℕ, ◌≤◌}
 use native.Mathlib.Omega.{arith}
-use Rattle.groups.specs.Groups.{fresh_of}
-use Rattle.message.specs.View.{message_of}
+use Rattle.groups.specs.Groups.{width}
+use Rattle.message.specs.Received.{message_in, terms_in, call_in}
 use Rattle.record.specs.declared.Peer.{Peer}
-use Rattle.record.specs.Layout.{groups_of}
 use Rattle.rules.specs.Book.{on_frame}
-use Rattle.rules.specs.Given.{terms, call}
-use Rattle.engine.proofs.Headers.{few-counted, listed-ready}
-use Rattle.engine.proofs.Windows.{listed-step}
-use Rattle.table.specs.Table.{decode_table, slot}
-use Rattle.calls.specs.Calls.{fresh_in}
-use mathlib.Core.List.{List}
-use Rattle.engine.proofs.Headers.{held-header, held-reached, count_fits, listed-count, window-whole, ready}
+use Rattle.engine.proofs.Headers.{held-reached, window-whole}
 use Rattle.engine.proofs.Windows.{at-step}
 use borrow.Author.Rules.{rules}
 use Rattle.engine.proofs.frame_at.Goals as goal
 
 pub record_at-a-requires : goal.record_at-a-requires
-record_at-a-requires c = let R = held-reached _ c.args.h _ c.requires.0 _ c.width_of-w.ensures in
-    (R.most, omega (arith, R.long))
+record_at-a-requires c = let k = c in
+    let most : k.args.heard.now.stock.width ≤ width = search rules in
+    (most, omega (arith, (held-reached _ k.args.h _ k.requires.0 _ (k.requires.1.0.width, most)).long))
 
 pub overflow_add-e : goal.overflow_add-e
-overflow_add-e c = omega (arith, (held-reached _ c.args.h _ c.requires.0 _ c.width_of-w.ensures).long)
+overflow_add-e c = let k = c in
+    let most : k.args.heard.now.stock.width ≤ width = search rules in
+    omega (arith, (held-reached _ k.args.h _ k.requires.0 _ (k.requires.1.0.width, most)).long)
 
 pub slice_bounds-on_frame-end : goal.slice_bounds-on_frame-end
-slice_bounds-on_frame-end c = omega (arith, (held-reached _ c.args.h _ c.requires.0 _ c.width_of-w.ensures).long)
-
-pub listed-requires : goal.listed-requires
-listed-requires c = few-counted c.args.h (held-header _ _ _ c.requires.0)
+slice_bounds-on_frame-end c = let k = c in
+    let most : k.args.heard.now.stock.width ≤ width = search rules in
+    omega (arith, (held-reached _ k.args.h _ k.requires.0 _ (k.requires.1.0.width, most)).long)
 
 pub on_frame-requires : goal.on_frame-requires
-on_frame-requires c =
-    listed-ready _ _ _ _ c.listed.ensures c.args.g.clock _ _
-    (ready c.args.g.clock _ _ c.args.h _ c.args.body.now c.args.v c.width_of-w.ensures.0
-    (window-whole _ c.args.h _ c.requires.0 _ c.width_of-w.ensures
+on_frame-requires c = let k = c in
+    let most : k.args.heard.now.stock.width ≤ width = search rules in
+    window-whole _ k.args.h _ k.requires.0 _ (k.requires.1.0.width, most)
     _ _ c.record_at-a.ensures c.record_size.ensures
-    c.args.g.clock (λ i. search rules) c.requires.1.1.0) c.requires.1.0 c.requires.1.1.1)
+    k.args.heard.now.given.clock (λ i. search rules) k.requires.1.1
 
 pub returns : goal.returns
-returns c =
-    listed-step _ _ _ _
-    (λ (l : List ℕ). on_frame (terms c.args.g l) (call c.args.g (fresh_in c.args.h c.args.fresh.now)) (slot (decode_table c.args.t.now) c.args.k) (message_of c.args.body.now c.args.v)) _ _
-    c.listed.ensures
-    (at-step c.args.t.now c.args.h c.args.k c.requires.0 _ c.width_of-w.ensures
+returns c = let k = c in
+    let most : k.args.heard.now.stock.width ≤ width = search rules in
+    at-step k.args.t.now k.args.h k.args.k k.requires.0 _ (k.requires.1.0.width, most)
     _ _ c.record_at-a.ensures c.record_size.ensures
-    (λ (W : ℕ) (p : Peer). on_frame (terms c.args.g c.listed.result.now) (call c.args.g (fresh_of W c.args.fresh.now)) p (message_of c.args.body.now c.args.v))
-    _ _ (search rules) c.on_frame.ensures)
+    (λ (W : ℕ) (p : Peer). on_frame (terms_in k.args.heard.now) (call_in k.args.heard.now) p (message_in k.args.heard.now))
+    _ _ (search rules) c.on_frame.ensures

@@ -3,7 +3,7 @@ use Rattle.answers.specs.Answers.{telling}
 use Rattle.std.proofs.Common.{ap, refl}
 use Rattle.engine.proofs.Headers.{held-sized, held_at, held-reached}
 use Rattle.engine.proofs.Windows.{slot-changed}
-use Rattle.engine.proofs.Starts.{given-clocked, started, start-full}
+use Rattle.engine.proofs.Starts.{given-clocked, stock-starts, started, start-full}
 use borrow.Author.Rules.{rules}
 use Rattle.engine.proofs.start.Goals as goal
 
@@ -16,7 +16,7 @@ standing_of-was-requires c = held-reached _ c.args.h _ (held_at _ c.args.h _ _ c
     c.width_of-w.ensures
 
 pub start_at-said-requires : goal.start_at-said-requires
-start_at-said-requires c = (held_at _ c.args.h _ _ c.requires.0 (sym c.seat_of.ensures ∙ c.in-Some.is), (c.requires.1, given-clocked c.args.h _ _ _ _ _ c.given_of-g.ensures))
+start_at-said-requires c = (held_at _ c.args.h _ _ c.requires.0 (sym c.seat_of.ensures ∙ c.in-Some.is), (c.stock_of-stock.ensures.1, given-clocked c.args.h _ _ _ _ _ c.given_of-g.ensures))
 
 pub finish_at-requires : goal.finish_at-requires
 finish_at-requires c = slot-changed _ c.args.h _ (held_at _ c.args.h _ _ c.requires.0
@@ -29,7 +29,7 @@ returns c = started c.args.t.now c.args.h c.args.f c.requires.0 c.args.address c
     c.seat_of.ensures
     c.in-Some.is
     c.given_of-g.ensures
-    c.start_at-said.ensures (ap telling c.finish_at.ensures.0, c.finish_at.ensures.1)
+    (stock-starts _ c.args.h c.args.fresh.now _ _ _ _ _ _ c.stock_of-stock.ensures.0 c.stock_of-stock.ensures.1 c.start_at-said.ensures) (ap telling c.finish_at.ensures.0, c.finish_at.ensures.1)
 
 pub returns-in_default : goal.returns-in_default
 returns-in_default c = start-full c.args.t.now c.args.h c.args.f c.requires.0 c.args.address c.args.time c.args.fresh.now _ _

@@ -3,10 +3,10 @@ use Rattle.perform.proofs.Performs.{did-drop, did-refuse-group, did-ask-token, d
 use Rattle.perform.proofs.perform.Goals as goal
 
 pub resend_both-requires : goal.resend_both-requires
-resend_both-requires c = (c.requires.0.record_is, c.requires.1.resend c.in-ResendBoth.is)
+resend_both-requires c = (c.requires.0, c.requires.1.resend c.in-ResendBoth.is)
 
 pub hear_again-requires : goal.hear_again-requires
-hear_again-requires c = let r = c.requires.0.record_is in (r.size, (r.most, omega (arith, r.paced.few, c.requires.1.hear c.in-HearAgain.is)))
+hear_again-requires c = let r = c.requires.0 in (r.size, (r.most, omega (arith, r.paced.few, c.requires.1.hear c.in-HearAgain.is)))
 
 pub returns-in-Drop : goal.returns-in-Drop
 returns-in-Drop c = did-drop _ _ _ _ _ _ _ c.in-Drop.is c.say_frames.ensures

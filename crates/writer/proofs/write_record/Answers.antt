@@ -3,7 +3,7 @@ use Rattle.std.proofs.Common.{sym, ◌∙◌}
 use Rattle.table.specs.Table.{Reached}
 use Rattle.causes.proofs.Laws.{handed-on}
 use Rattle.table.proofs.Laws.{enters}
-use Rattle.writer.proofs.Laws.{few, none-found, at-reached, at-bounded, record-refused, record-absent, record-drawn}
+use Rattle.writer.proofs.Laws.{few, none-found, at-reached, at-whole, at-bounded, record-refused, record-absent, record-drawn}
 use borrow.Author.Rules.{rules}
 use Rattle.writer.proofs.write_record.Goals as goal
 
@@ -16,8 +16,15 @@ overflow_add-e c = let in_table : Reached c.args.t.now c.width_of-w.result c.in-
 pub listed-requires : goal.listed-requires
 listed-requires c = let e = enters _ _ _ (sym c.enter.ensures ∙ c.in_ok-header.was) in few _ _ e.looked
 
-pub slice_bounds-write_peer-end : goal.slice_bounds-write_peer-end
-slice_bounds-write_peer-end c = let in_table : Reached c.args.t.now c.width_of-w.result c.in-Some.k = at-reached _ _ _ (enters _ _ _ (sym c.enter.ensures ∙ c.in_ok-header.was)) _ c.in-Some.is _ c.width_of-w.ensures in search (rules, in_table.long)
+pub slice_bounds-peer-end : goal.slice_bounds-peer-end
+slice_bounds-peer-end c = let in_table : Reached c.args.t.now c.width_of-w.result c.in-Some.k = at-reached _ _ _ (enters _ _ _ (sym c.enter.ensures ∙ c.in_ok-header.was)) _ c.in-Some.is _ c.width_of-w.ensures in search (rules, in_table.long)
+
+pub invariant_of-peer : goal.invariant_of-peer
+invariant_of-peer c =
+    record {
+      most = c.width_of-w.ensures.1;
+      whole = at-whole _ _ _ (enters _ _ _ (sym c.enter.ensures ∙ c.in_ok-header.was)) _ c.in-Some.is _ c.width_of-w.ensures _ _ c.record_at-a.ensures c.record_size.ensures;
+    }
 
 pub write_peer-requires : goal.write_peer-requires
 write_peer-requires c = at-bounded _ _ _ (enters _ _ _ (sym c.enter.ensures ∙ c.in_ok-header.was)) _ c.in-Some.is _ c.width_of-w.ensures _ _ c.record_at-a.ensures c.record_size.ensures

@@ -3,25 +3,26 @@ use mathlib.Core.Path.{sym}
 use Prim.Native.Nat.{◌≤◌}
 use lib.ListN.{length}
 use lib.Seq.{length-take-le}
-use Rattle.record.specs.Layout.{decode_peer}
+use Rattle.record.specs.Reading.{peer_in}
+use borrow.Author.Rules.{rules}
 use Rattle.writer.proofs.Laws.{token-held, own_held, commit-none, commit-run}
 use Rattle.writer.proofs.write_run_commit.Goals as goal
 
 pub returns-then-state-eq0 : goal.returns-then-state-eq0
-returns-then-state-eq0 c = commit-none _ (decode_peer c.args.w c.args.s.now) _ _ c.state_of-state.ensures c.if-state-eq0.true
+returns-then-state-eq0 c = commit-none _ (peer_in c.args.peer.now) _ _ c.state-state.ensures c.if-state-eq0.true
 
 pub slice_bounds-write_commit-end : goal.slice_bounds-write_commit-end
-slice_bounds-write_commit-end c = sym (length-take-le _ _ (token-held c.args.s.now c.args.w c.requires _ c.state_of-state.ensures c.if-state-eq0.false _ _
-    c.toklen_of-m.ensures c.token_of-token.ensures))
+slice_bounds-write_commit-end c = sym (length-take-le _ _ (token-held c.args.peer.now.octets.now c.args.peer.now.width (search rules) c.requires _ c.state-state.ensures c.if-state-eq0.false _ _
+    c.toklen-m.ensures c.token-token.ensures))
 
 pub slice_bounds-write_commit-end-2 : goal.slice_bounds-write_commit-end-2
-slice_bounds-write_commit-end-2 c = let own-in : c.commit_length-l.result ≤ length c.own_of-own.result.now = own_held c.args.s.now c.args.w c.requires _ c.state_of-state.ensures c.if-state-eq0.false _ _
-    c.own_of-own.result.now c.group_of-group.ensures c.commit_length-l.ensures.0 c.own_of-own.ensures.0 in sym (length-take-le _ _ own-in)
+slice_bounds-write_commit-end-2 c = let own-in : c.commit_length-l.result ≤ length c.own-own.result.now = own_held c.args.peer.now.octets.now c.args.peer.now.width (search rules) c.requires _ c.state-state.ensures c.if-state-eq0.false _ _
+    c.own-own.result.now c.group-group.ensures c.commit_length-l.ensures.0 c.own-own.ensures.0 in sym (length-take-le _ _ own-in)
 
 pub returns : goal.returns
-returns c = let own-in : c.commit_length-l.result ≤ length c.own_of-own.result.now = let k = c in
-    own_held k.args.s.now k.args.w k.requires _ c.state_of-state.ensures c.if-state-eq0.false _ _
-    c.own_of-own.result.now c.group_of-group.ensures c.commit_length-l.ensures.0 c.own_of-own.ensures.0 in let k = c in
-    commit-run _ (decode_peer k.args.w k.args.s.now) _ _ c.state_of-state.ensures _ _ _ _ _ _ _ c.if-state-eq0.false
-    c.group_of-group.ensures c.toklen_of-m.ensures c.token_of-token.ensures c.commit_length-l.ensures.0 own-in c.own_of-own.ensures.1
+returns c = let own-in : c.commit_length-l.result ≤ length c.own-own.result.now = let k = c in
+    own_held k.args.peer.now.octets.now k.args.peer.now.width (search rules) k.requires _ c.state-state.ensures c.if-state-eq0.false _ _
+    c.own-own.result.now c.group-group.ensures c.commit_length-l.ensures.0 c.own-own.ensures.0 in let k = c in
+    commit-run _ (peer_in k.args.peer.now) _ _ c.state-state.ensures _ _ _ _ _ _ _ c.if-state-eq0.false
+    c.group-group.ensures c.toklen-m.ensures c.token-token.ensures c.commit_length-l.ensures.0 own-in c.own-own.ensures.1
     c.write_commit.ensures
