@@ -13,42 +13,35 @@ use borrow.Author.Rules.{rules}
 use Rattle.engine.proofs.hear.Goals as goal
 
 pub seat_of-requires : goal.seat_of-requires
-seat_of-requires c = let k = c in
-    let most : k.args.heard.now.stock.width ≤ width = search rules in held-sized _ k.args.h _ k.requires.0 _ (k.requires.1.0.width, most)
+seat_of-requires c = let most : c.args.heard.now.stock.width ≤ width = search rules in held-sized _ c.args.h _ c.requires.0 _ (c.requires.1.0.width, most)
 
 pub standing_of-was-requires : goal.standing_of-was-requires
-standing_of-was-requires c = let k = c in
-    let most : k.args.heard.now.stock.width ≤ width = search rules in
-    held-reached _ k.args.h _ (held_at _ k.args.h _ _ k.requires.0
+standing_of-was-requires c = let most : c.args.heard.now.stock.width ≤ width = search rules in
+    held-reached _ c.args.h _ (held_at _ c.args.h _ _ c.requires.0
     (sym c.seat_of.ensures ∙ c.in-Some.is)) _
-    (k.requires.1.0.width, most)
+    (c.requires.1.0.width, most)
 
 pub frame_at-said-requires : goal.frame_at-said-requires
-frame_at-said-requires c = let k = c in
-    (held_at _ k.args.h _ _ k.requires.0 (sym c.seat_of.ensures ∙ c.in-Some.is), (k.requires.1.0, k.requires.1.1.clock))
+frame_at-said-requires c = (held_at _ c.args.h _ _ c.requires.0 (sym c.seat_of.ensures ∙ c.in-Some.is), (c.requires.1.0, c.requires.1.1.clock))
 
 pub finish_at-requires : goal.finish_at-requires
-finish_at-requires c = let k = c in
-    slot-changed _ k.args.h _ (held_at _ k.args.h _ _ k.requires.0
+finish_at-requires c = slot-changed _ c.args.h _ (held_at _ c.args.h _ _ c.requires.0
     (sym c.seat_of.ensures ∙ c.in-Some.is)) _ _ _ _
     (search rules) c.frame_at-said.ensures c.standing_of-was.ensures
 
 pub hear_outside-requires : goal.hear_outside-requires
-hear_outside-requires c = let k = c in
-    paced _ k.args.h (held-header _ _ _ k.requires.0) (slotless-clocked k.args.h k.args.heard.now.given _ k.requires.1.1 c.without_slot-slotless.ensures)
+hear_outside-requires c = paced _ c.args.h (held-header _ _ _ c.requires.0) (slotless-clocked c.args.h c.args.heard.now.given _ c.requires.1.1 c.without_slot-slotless.ensures)
 
 pub returns : goal.returns
-returns c = let k = c in
-    let d = k.args.heard.now in
-    hear-seated k.args.t.now k.args.h k.args.f k.requires.0 d.given k.requires.1.1 (message_in d) d.stock.groups.now k.requires.1.0.groups (commits_in d.stock)
+returns c = let d = c.args.heard.now in
+    hear-seated c.args.t.now c.args.h c.args.f c.requires.0 d.given c.requires.1.1 (message_in d) d.stock.groups.now c.requires.1.0.groups (commits_in d.stock)
     _ _ _ _ _ _ (λ i. search rules)
     c.seat_of.ensures
     c.in-Some.is
     c.frame_at-said.ensures (ap telling c.finish_at.ensures.0, c.finish_at.ensures.1)
 
 pub returns-in_default : goal.returns-in_default
-returns-in_default c = let k = c in
-    let d = k.args.heard.now in
-    hear-unseated k.args.t.now k.args.h k.args.f k.requires.0 d.given k.requires.1.1 (message_in d) d.stock.groups.now k.requires.1.0.groups (commits_in d.stock)
+returns-in_default c = let d = c.args.heard.now in
+    hear-unseated c.args.t.now c.args.h c.args.f c.requires.0 d.given c.requires.1.1 (message_in d) d.stock.groups.now c.requires.1.0.groups (commits_in d.stock)
     _ _ _ (λ i. search rules)
     c.seat_of.ensures c.in_default.is c.without_slot-slotless.ensures c.hear_outside.ensures

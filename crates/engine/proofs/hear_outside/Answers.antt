@@ -9,30 +9,25 @@ use borrow.Author.Rules.{rules}
 use Rattle.engine.proofs.hear_outside.Goals as goal
 
 pub slice_bounds-s-end : goal.slice_bounds-s-end
-slice_bounds-s-end c = let k = c in
-    let most : k.args.heard.now.stock.width ≤ width = search rules in
+slice_bounds-s-end c = let most : c.args.heard.now.stock.width ≤ width = search rules in
     blank-fits _ most _ c.record_size-size.ensures
 
 pub slice_bounds-on_frame-end : goal.slice_bounds-on_frame-end
-slice_bounds-on_frame-end c = let k = c in
-    let most : k.args.heard.now.stock.width ≤ width = search rules in
+slice_bounds-on_frame-end c = let most : c.args.heard.now.stock.width ≤ width = search rules in
     blank-length _ most _ c.record_size-size.ensures
 
 pub on_frame-said-requires : goal.on_frame-said-requires
-on_frame-said-requires c = let k = c in
-    let most : k.args.heard.now.stock.width ≤ width = search rules in
-    blank-whole _ most _ c.record_size-size.ensures k.args.heard.now.given.clock k.requires
+on_frame-said-requires c = let most : c.args.heard.now.stock.width ≤ width = search rules in
+    blank-whole _ most _ c.record_size-size.ensures c.args.heard.now.given.clock c.requires
 
 pub returns-then-said : goal.returns-then-said
-returns-then-said c = let k = c in
-    let most : k.args.heard.now.stock.width ≤ width = search rules in
+returns-then-said c = let most : c.args.heard.now.stock.width ≤ width = search rules in
     outside-refused _ _ _ _
-    (outside-says (terms_in k.args.heard.now) (call_in k.args.heard.now) (message_in k.args.heard.now) _ _ _ _
+    (outside-says (terms_in c.args.heard.now) (call_in c.args.heard.now) (message_in c.args.heard.now) _ _ _ _
     (blank-free _ most _ c.record_size-size.ensures) c.on_frame-said.ensures) c.if-said.true refl
 
 pub returns : goal.returns
-returns c = let k = c in
-    let most : k.args.heard.now.stock.width ≤ width = search rules in
+returns c = let most : c.args.heard.now.stock.width ≤ width = search rules in
     outside-said _ _ _ _
-    (outside-says (terms_in k.args.heard.now) (call_in k.args.heard.now) (message_in k.args.heard.now) _ _ _ _
+    (outside-says (terms_in c.args.heard.now) (call_in c.args.heard.now) (message_in c.args.heard.now) _ _ _ _
     (blank-free _ most _ c.record_size-size.ensures) c.on_frame-said.ensures) c.if-said.false (ap telling c.say.ensures)
