@@ -74,7 +74,7 @@ pub record Lawful : Type 0 where
 
 -- ---- who goes on
 
-go_same : {f g : Option ℕ} → Ok f ≡ Ok g → f ≡ g
+go_same : {f g : Option ℕ} → ◌≡◌ {A = Result (Option ℕ) Refusal} (Ok f) (Ok g) → f ≡ g
 go_same e = cc
 
 clashed : {c : Refusal} {f : Option ℕ} {X : Type 0} → Err c ≡ Ok f → X

@@ -8,7 +8,7 @@ use lib.Dec.{eqb}
 use lib.ListN.{length}
 use borrow.Author.Tests.{eqb-true, le-ltb}
 use Rattle.protocol.specs.Model.{Side}
-use Rattle.std.specs.Prelude.{if◌then◌else◌, Option, Some, None, Ok, Err}
+use Rattle.std.specs.Prelude.{if◌then◌else◌, Option, Some, None, Ok, Err, Result}
 use Rattle.octets.specs.Octets.{num, individual, zero_address, same_address}
 use Rattle.octets.proofs.Scan.{clash, and_left, and_right}
 use Rattle.octets.proofs.Laws.{put_all}
@@ -16,7 +16,7 @@ use Rattle.frame.specs.Writing.{Drawn, Octets, Outside, parts_body, written, lea
 use Rattle.record.specs.Layout.{no_peer, no_run, no_link}
 use Rattle.soundness.specs.Soundness.{usable}
 use Rattle.soundness.proofs.Laws.{peer-in-use}
-use Rattle.table.specs.Table.{decode_table, in_use, belongs, slot, finds, look, look_by, sound, entry, found_entry}
+use Rattle.table.specs.Table.{decode_table, in_use, belongs, slot, finds, look, look_by, sound, entry}
 use Rattle.table.proofs.Laws.{found_below, sound-peer}
 use Rattle.rules.specs.declared.Frame.{Frame}
 use Rattle.rules.specs.Book.{◌is◌}
@@ -74,7 +74,7 @@ module _ (a value expected : List ℕ) (x : Frame) where
 module _ (t : List ℕ) (s : sound t ≡ true) (octets out : List ℕ) where
   record-writes-by : (a value : List ℕ) (q : ℕ) (f : Option ℕ) → finds (decode_table t) a ≡ f
       → record_body (groups_in t) (look_by (decode_table t) f) q value ≡ Octets octets → writes_record t a q value out ≡ draws (Octets octets) out
-  unfolding look_by entry found_entry writes_record writes_record_by belongs
+  unfolding look_by entry writes_record writes_record_by belongs
   record-writes-by a value q None e m = absurd (none-outside (groups_in t) value octets q m)
   record-writes-by a value q (Some k) e m =
       let w = found_below (decode_table t) a k e in
@@ -128,7 +128,7 @@ not-refused : {c : Refusal} {n : ℕ} {r s : List ℕ} {X : Type 0}
     → ◌≡◌ {A = LeftOut} (record { answer = Err c; out = r }) (record { answer = Ok n; out = s }) → X
 not-refused e = let q = ap (λ (x : LeftOut). x.answer) e in let z : ◌≡◌ {A = ℕ} 0 1 = cc in absurd (omega arith)
 
-length-is : {m n : ℕ} → Ok m ≡ Ok n → m ≡ n
+length-is : {m n : ℕ} → ◌≡◌ {A = Result ℕ Refusal} (Ok m) (Ok n) → m ≡ n
 length-is e = cc
 
 -- a buffer of the frame's own length says all of it

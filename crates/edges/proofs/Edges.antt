@@ -19,7 +19,7 @@ use Rattle.edges.specs.Edges.{edges, all_hold}
 
 pub edges-hold : all_hold edges ≡ true
 unfolding octets.part octets.num octets.oct octets.all_zero octets.same scan.all_below scan.count_below scan.first_below scan.last_below
-    groups.scalar_length groups.element_length groups.commit_length groups.stored groups.listed groups.place_from groups.place groups.index_of groups.commits_of
+    groups.scalar_length groups.element_length groups.commit_length groups.stored groups.listed groups.index_of groups.commits_of
     groups.fresh_of groups.fresh_at groups.fresh_for groups.tails_ok groups.fresh_ok frame.read_listed frame.read_offer frame.read_commit frame.whole_after frame.whole_elements frame.elements_of
     frame.read_confirm frame.read_body frame.read_token_request frame.scalar_of frame.element_of frame.commit_of frame.head layout.no_run layout.no_link layout.no_peer
     layout.record_at layout.form_of layout.period_of layout.limit_of initial.slots_for initial.length_ok initial.initial_ok initial.initial_header settings.settings_of

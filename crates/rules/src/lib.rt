@@ -54,6 +54,23 @@ pub enum Event {
     Ended,
 }
 
+// The number of an event.
+impl From<Event> for u8 {
+    ghost use Rattle.std.specs.Prelude.{◌≡◌};
+    ghost use Rattle.rules.specs.Book.{event_number};
+
+    ghost from_gives = { λ e n. n ≡ event_number e };
+
+    fn from(e: Event) -> u8 {
+        match e {
+            Event::None => 0,
+            Event::Accepted => 1,
+            Event::Abandoned => 2,
+            Event::Ended => 3,
+        }
+    }
+}
+
 // A frame to send.
 #[derive(Clone, Copy)]
 pub struct Frame {

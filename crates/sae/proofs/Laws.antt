@@ -9,7 +9,7 @@ use lib.ListN.{length, replicate, take, length-append, length-drop}
 use borrow.Author.Tests.{eq-eqb, ne_eqb, not-true, not-false}
 use Rattle.octets.specs.Octets.{put, part, num, oct}
 use Rattle.causes.specs.Causes.{number}
-use Rattle.std.specs.Prelude.{if◌then◌else◌, Result, Err}
+use Rattle.std.specs.Prelude.{if◌then◌else◌, Result, Err, Option, Some, None, Ok}
 use Rattle.octets.proofs.Laws.{length-oct}
 use Rattle.record.specs.Codec.{glue, total}
 use Rattle.record.specs.declared.Header.{Header}
@@ -25,26 +25,27 @@ use Rattle.rules.specs.Book.{event_number}
 use Rattle.groups.specs.Groups.{width, commit_length}
 use Rattle.groups.proofs.Laws.{commit-fits}
 use Rattle.message.specs.declared.View.{View}
-use Rattle.message.specs.View.{view}
-use Rattle.message.proofs.Laws.{view-long}
+use Rattle.message.specs.View.{view, read_view}
+use Rattle.message.proofs.Laws.{view-long, view-read, view-unread}
 use Rattle.frame.specs.Frame.{elements_of, commit_body, token_request_body, group_refusal_body, confirm_body}
 use Rattle.frame.specs.Writing.{Drawn, Octets, Outside, draw_commit, draw_token_request, draw_group_refusal, draw_confirm, draw_commits, draw_confirms, parts_body}
 use Rattle.frame.proofs.Laws.{length-body}
 use Rattle.frame.proofs.Wrote.{CommitParts, commit-parts, TokenRequestParts, token-request-parts, group-refusal-parts, ConfirmParts, confirm-parts}
 use Rattle.record.specs.declared.Peer.{Peer}
-use Rattle.table.specs.Table.{decode_table, sound, Looked}
-use Rattle.table.proofs.Laws.{looked-sound, looked-header}
+use Rattle.table.specs.Table.{decode_table, sound, checked, Looked}
+use Rattle.table.proofs.Laws.{unsound as table-unsound}
 use Rattle.good_links.specs.GoodLinks.{filled, fills}
-use Rattle.answers.specs.Answers.{Report, Left, Leaves, returned, refused}
-use Rattle.answers.specs.Outcome.{Outcome}
+use Rattle.answers.specs.declared.Answer.{Answer}
+use Rattle.answers.specs.Answers.{Report, Left, Leaves, returned, refused, none_due, telling, told, told_if_due}
+use Rattle.causes.specs.Causes.{passes}
 use Rattle.causes.specs.declared.Refusal.{Refusal}
 use Rattle.causes.specs.declared.Refusal.TheVariants as why
 use Rattle.calls.specs.Calls.{initializes, initializes_from}
 use Rattle.writer.specs.Writer.{LeftOut, LeavesOut, writes_parts, record_commit, record_confirm, record_body, writes_record}
 use Rattle.writer.proofs.Theorems.{Draws, outside, short, whole, FromParts, malformed, made, FromRecord, unsound, unusable, absent, drawn, parts-one, record-one}
 use Rattle.lookups.specs.Lookups.{asked_returned}
-use Rattle.moves.specs.Moves.{Moved, Moves}
-use Rattle.sae.specs.Interface.{none_due_flag, frame_octets, framed_octets, frames_octets, answer_octets, is_refused, answer_left, Returns, has_token, has_value, handed_at, handed_length, rest_at, parts_octets, read_number, read_parts, Reads, wrote_number, written_left, Counted, Writes, asked_left, Asks, fill_number, Fills, MovesTo}
+use Rattle.moves.specs.Moves.{Moved, Moves, settled}
+use Rattle.sae.specs.Interface.{frame_octets, framed_octets, frames_octets, answer_octets, answer_left, Returns, has_token, has_value, handed_at, handed_length, rest_at, parts_octets, reading, read_number, read_parts, Reads, wrote_number, written_left, Counted, Writes, asked_left, Asks, fill_number, Fills, MovesTo}
 
 -- ---- octets, one store for each field
 
@@ -100,24 +101,70 @@ length-frames f fs e = ap length e ∙ go f
     go (frames.One g) = framed-length 1 (frame_octets g) (replicate 8 0) (frame-length g) refl
     go (frames.Two g h) = framed-length 2 (frame_octets g) (frame_octets h) (frame-length g) (frame-length h)
 
-pub answer-laid : (x : Report) (none event : ℕ) (fs z a b c d e : List ℕ) → none ≡ none_due_flag x.outcome → event ≡ event_number x.event → fs ≡ frames_octets x.frames → length x.address ≡ 6 → length fs ≡ 18
-    → length z ≡ 28 → a ≡ put z 0 (oct 1 none) → b ≡ put a 1 (oct 1 event) → c ≡ put b 2 (oct 2 x.afresh) → d ≡ put c 4 x.address → e ≡ put d 10 fs → e ≡ answer_octets x
-unfolding answer_octets lay glue total
-answer-laid x none event fs z a b c d e en ee ef ha hf hz ea eb ec ed eg =
-    let k : e ≡ lay 0 (1 ∷ 1 ∷ 2 ∷ 6 ∷ 18 ∷ []) (oct 1 none ∷ oct 1 event ∷ oct 2 x.afresh ∷ x.address ∷ fs ∷ []) z = cc in
-    let w : map length (oct 1 none ∷ oct 1 event ∷ oct 2 x.afresh ∷ x.address ∷ fs ∷ []) ≡ 1 ∷ 1 ∷ 2 ∷ 6 ∷ 18 ∷ [] = cc (length-oct 1 none, length-oct 1 event, length-oct 2 x.afresh) in
-    k ∙ lay-all (1 ∷ 1 ∷ 2 ∷ 6 ∷ 18 ∷ []) (oct 1 none ∷ oct 1 event ∷ oct 2 x.afresh ∷ x.address ∷ fs ∷ []) z w hz ∙ rw (append-nil, en, ee, ef)
+-- a call's answer says that one was due, with octet 0 as it was set up
+laid-answer : (none event : ℕ) (fresh address fs z a b c d e : List ℕ) → length fresh ≡ 2 → length address ≡ 6 → length fs ≡ 18 → length z ≡ 28
+    → a ≡ put z 0 (oct 1 none) → b ≡ put a 1 (oct 1 event) → c ≡ put b 2 fresh → d ≡ put c 4 address → e ≡ put d 10 fs
+    → e ≡ oct 1 none ++ (oct 1 event ++ (fresh ++ (address ++ fs)))
+unfolding lay glue total
+laid-answer none event fresh address fs z a b c d e hr ha hf hz ea eb ec ed ee =
+    let k : e ≡ lay 0 (1 ∷ 1 ∷ 2 ∷ 6 ∷ 18 ∷ []) (oct 1 none ∷ oct 1 event ∷ fresh ∷ address ∷ fs ∷ []) z = cc in
+    let w : map length (oct 1 none ∷ oct 1 event ∷ fresh ∷ address ∷ fs ∷ []) ≡ 1 ∷ 1 ∷ 2 ∷ 6 ∷ 18 ∷ [] = cc (length-oct 1 none, length-oct 1 event) in
+    k ∙ lay-all (1 ∷ 1 ∷ 2 ∷ 6 ∷ 18 ∷ []) (oct 1 none ∷ oct 1 event ∷ fresh ∷ address ∷ fs ∷ []) z w hz ∙ simp append-nil
+
+zero-first : replicate 28 0 ≡ put (replicate 28 0) 0 (oct 1 0)
+unfolding put oct
+zero-first = refl
+
+pub answer-laid : (x : Answer) (event : ℕ) (fs a b c d : List ℕ) → event ≡ event_number x.event → fs ≡ frames_octets x.frames → length x.address ≡ 6
+    → a ≡ put (replicate 28 0) 1 (oct 1 event) → b ≡ put a 2 (oct 2 x.afresh) → c ≡ put b 4 x.address → d ≡ put c 10 fs → d ≡ answer_octets (telling x)
+unfolding answer_octets
+answer-laid x event fs a b c d ee ef ha ea eb ec ed =
+    laid-answer 0 event (oct 2 x.afresh) x.address fs (replicate 28 0) (replicate 28 0) a b c d (length-oct 2 x.afresh) ha (length-frames x.frames fs ef) refl zero-first ea eb ec ed
+    ∙ rw (ee, ef) refl
+
+pub none-due-laid : (a : List ℕ) → a ≡ put (replicate 28 0) 0 (oct 1 1) → a ≡ answer_octets none_due
+unfolding put oct answer_octets none_due frames_octets framed_octets
+none-due-laid a e = e
 
 -- ---- the answer, and what is returned
 
-module _ (a : Report) (given : List ℕ) (b : Bool) (p : b ≡ is_refused a.outcome) where
-  pub left-refused : b ≡ true → given ≡ answer_left a given
-  unfolding answer_left
-  left-refused q = let z : is_refused a.outcome ≡ true = sym p ∙ q in rw z
+-- what is left of the octets lent for the answer
+pub left-refused : (c : Refusal) (given : List ℕ) → given ≡ answer_left (refused c) given
+unfolding answer_left refused
+left-refused c given = refl
 
-  pub left-answered : (x : List ℕ) → b ≡ false → x ≡ answer_octets a → x ≡ answer_left a given
-  unfolding answer_left
-  left-answered x q w = let z : is_refused a.outcome ≡ false = sym p ∙ q in rw z w
+pub left-answered : (a : Answer) (x given : List ℕ) → x ≡ answer_octets (telling a) → x ≡ answer_left (telling a) given
+unfolding answer_left
+left-answered a x given e = e
+
+pub left-none-due : (x given : List ℕ) → x ≡ answer_octets none_due → x ≡ answer_left none_due given
+unfolding answer_left none_due
+left-none-due x given e = e
+
+pub refused-number : (c : Refusal) → number c ≡ returned (refused c).outcome
+unfolding refused
+refused-number c = refl
+
+pub none-due-number : 0 ≡ returned none_due.outcome
+unfolding none_due
+none-due-number = refl
+
+-- by the result
+pub reply-answered : (r : Result Answer Refusal) (a : Answer) (x given : List ℕ) → r ≡ Ok a → x ≡ answer_octets (telling a) → (0 ≡ returned (told r).outcome) × (x ≡ answer_left (told r) given)
+reply-answered r a x given e q = rw e (refl, left-answered a x given q)
+
+pub reply-refused : (r : Result Answer Refusal) (c : Refusal) (n : ℕ) (given : List ℕ) → r ≡ Err c → n ≡ number c → (n ≡ returned (told r).outcome) × (given ≡ answer_left (told r) given)
+reply-refused r c n given e q = rw e (q ∙ refused-number c, left-refused c given)
+
+pub due-answered : (r : Result (Option Answer) Refusal) (a : Answer) (x given : List ℕ) → r ≡ Ok (Some a) → x ≡ answer_octets (telling a)
+    → (0 ≡ returned (told_if_due r).outcome) × (x ≡ answer_left (told_if_due r) given)
+due-answered r a x given e q = rw e (refl, left-answered a x given q)
+
+pub due-none : (r : Result (Option Answer) Refusal) (x given : List ℕ) → r ≡ Ok None → x ≡ answer_octets none_due → (0 ≡ returned (told_if_due r).outcome) × (x ≡ answer_left (told_if_due r) given)
+due-none r x given e q = rw e (none-due-number, left-none-due x given q)
+
+pub due-refused : (r : Result (Option Answer) Refusal) (c : Refusal) (n : ℕ) (given : List ℕ) → r ≡ Err c → n ≡ number c → (n ≡ returned (told_if_due r).outcome) × (given ≡ answer_left (told_if_due r) given)
+due-refused r c n given e q = rw e (q ∙ refused-number c, left-refused c given)
 
 pub replied : (x : Report) (t : List ℕ) (l : Left) (r : ℕ) (answer given : List ℕ) → Leaves x t l → r ≡ returned x.outcome → answer ≡ answer_left x given → Returns r t answer given l
 replied x t l r answer given e q w = record { returns = q ∙ ap (λ (y : Report). returned y.outcome) e.answer; leaves = e.table; answers = w ∙ ap (λ (y : Report). answer_left y given) e.answer }
@@ -200,34 +247,59 @@ parts-laid v s at long rest z a b c d e f h et el er hz ea eb ec ed ee ef eh =
 
 -- ---- a body read
 
-module _ (t frame given : List ℕ) (b : Bool) (h : Header) (L : Looked t b h) where
-  pub read-unsound : not b ≡ true → Reads 2 given given t frame
-  unfolding read_number read_parts
-  read-unsound q = let z : sound t ≡ false = sym L.right ∙ not-true b q in record { returns = rw z; leaves = rw z }
+module _ (t frame : List ℕ) where
+  pub reading-unsound : (c : Refusal) → checked t ≡ Err c → Err c ≡ reading t frame
+  unfolding reading
+  reading-unsound c e = let z = table-unsound t c e in rw (z.0, z.1) refl
 
-  module _ (v : View) (q : not b ≡ false) (k : v ≡ view (groups_of h) frame) where
-    seen : v ≡ view (groups_of (decode_table t).header) frame
-    seen = k ∙ ap (λ (i : Header). view (groups_of i) frame) (looked-header t b h L q)
+  module _ (h : Header) (L : Looked t h) (gs : List ℕ) (eg : gs ≡ groups_of h) where
+    seen : read_view gs frame ≡ read_view (groups_of (decode_table t).header) frame
+    seen = ap (λ (y : List ℕ). read_view y frame) (eg ∙ ap groups_of L.header)
 
-    -- a body that was read has at most 2,304 octets
-    pub read_length : (v.sequence ≡ 0 → ⊥) → length frame ≤ 2304
-    read_length d = view-long (groups_of h) frame (λ e. d (ap (λ (x : View). x.sequence) k ∙ e))
+    pub reading-malformed : (o : Option View) → o ≡ read_view gs frame → o ≡ None → Err why.Body ≡ reading t frame
+    unfolding reading
+    reading-malformed o e n =
+        let y : eqb (view (groups_of (decode_table t).header) frame).sequence 0 ≡ true = eq-eqb _ 0 (view-unread _ frame (sym seen ∙ sym e ∙ n)) in
+        rw (L.whole, y) refl
 
-    pub read-malformed : v.sequence ≡ 0 → Reads 7 given given t frame
-    unfolding read_number read_parts
-    read-malformed e =
-        let z : sound t ≡ true = looked-sound t b h L q in
-        let n : eqb v.sequence 0 ≡ true = eq-eqb v.sequence 0 e in
-        let y : v ≡ view (groups_of (decode_table t).header) frame = seen in
-        record { returns = rw (z, ← y, n); leaves = rw (z, ← y, n) }
+    module _ (o : Option View) (v : View) (e : o ≡ read_view gs frame) (s : o ≡ Some v) where
+      read : (v ≡ view (groups_of (decode_table t).header) frame) × (v.sequence ≡ 0 → ⊥) × (v.toklen ≤ 256)
+      read = view-read (groups_of (decode_table t).header) frame v (sym seen ∙ sym e ∙ s)
 
-    pub read-parts : (parts : List ℕ) → (v.sequence ≡ 0 → ⊥) → parts ≡ parts_octets v frame → Reads 0 parts given t frame
-    unfolding read_number read_parts
-    read-parts parts d w =
-        let z : sound t ≡ true = looked-sound t b h L q in
-        let n : eqb v.sequence 0 ≡ false = ne_eqb v.sequence 0 d in
-        let y : v ≡ view (groups_of (decode_table t).header) frame = seen in
-        record { returns = rw (z, ← y, n); leaves = rw (z, ← y, n) w }
+      -- a body that was read has at most 2,304 octets
+      pub read_length : length frame ≤ 2304
+      read_length = view-long (groups_of (decode_table t).header) frame (λ z. read.1 (ap (λ (x : View). x.sequence) read.0 ∙ z))
+
+      pub reading-parts : (parts : List ℕ) → parts ≡ parts_octets v frame → Ok parts ≡ reading t frame
+      unfolding reading
+      reading-parts parts w =
+          let n : eqb (view (groups_of (decode_table t).header) frame).sequence 0 ≡ false = ne_eqb _ 0 (λ z. read.1 (ap (λ (x : View). x.sequence) read.0 ∙ z)) in
+          rw (L.whole, n) (ap Ok (w ∙ ap (λ (x : View). parts_octets x frame) read.0))
+
+-- what the octets lent for the parts hold then
+module _ (t frame given : List ℕ) (r : Result (List ℕ) Refusal) (e : r ≡ reading t frame) where
+  go-read : (b c : Bool) (x : List ℕ) → (if b then (if c then Err why.Body else Ok (parts_octets (view (groups_of (decode_table t).header) frame) frame)) else Err why.Unsound) ≡ Ok x
+      → (◌≡◌ {A = ℕ} 0 (if b then (if c then 7 else 0) else 2)) × (x ≡ (if b then (if c then given else parts_octets (view (groups_of (decode_table t).header) frame) frame) else given))
+  go-read true false x q = (refl, cc)
+  go-read true true x q = let z : ◌≡◌ {A = ℕ} 0 1 = cc in absurd (omega arith)
+  go-read false c x q = let z : ◌≡◌ {A = ℕ} 0 1 = cc in absurd (omega arith)
+
+  go-refused : (b c : Bool) (d : Refusal)
+      → ◌≡◌ {A = Result (List ℕ) Refusal} (if b then (if c then Err why.Body else Ok (parts_octets (view (groups_of (decode_table t).header) frame) frame)) else Err why.Unsound) (Err d)
+      → (number d ≡ (if b then (if c then 7 else 0) else 2)) × (given ≡ (if b then (if c then given else parts_octets (view (groups_of (decode_table t).header) frame) frame) else given))
+  go-refused true false d q = let z : ◌≡◌ {A = ℕ} 0 1 = cc in absurd (omega arith)
+  go-refused true true d q = let z : why.Body ≡ d = cc in (ap number (sym z), refl)
+  go-refused false c d q = let z : why.Unsound ≡ d = cc in (ap number (sym z), refl)
+
+  pub read-done : (x : List ℕ) → r ≡ Ok x → Reads 0 x given t frame
+  unfolding reading read_number read_parts
+  read-done x q =
+      let w = go-read (sound t) (eqb (view (groups_of (decode_table t).header) frame).sequence 0) x (sym e ∙ q) in record { returns = w.0; leaves = w.1 }
+
+  pub read-refused : (c : Refusal) (n : ℕ) → r ≡ Err c → n ≡ number c → Reads n given given t frame
+  unfolding reading read_number read_parts
+  read-refused c n q k =
+      let w = go-refused (sound t) (eqb (view (groups_of (decode_table t).header) frame).sequence 0) c (sym e ∙ q) in record { returns = k ∙ w.0; leaves = w.1 }
 
 -- ---- a frame has at most 462 octets
 
@@ -367,14 +439,15 @@ pub asked-replied : (a x : Result ℕ Refusal) (r left given : ℕ) → a ≡ x 
 asked-replied a x r left given e w = record { returns = w.0 ∙ ap asked_returned e; leaves = w.1 ∙ ap (λ (y : Result ℕ Refusal). asked_left y given) e }
 
 -- what `sae_fill` shows
-pub fill_done : (t u : List ℕ) (b : Bool) → (b ≡ sound (filled t)) × (u ≡ fills t) → b ≡ true → Fills 0 u t
+-- a fill
+pub filled-law : (t u : List ℕ) (r : Result (Unit {0}) Refusal) (n : ℕ) → (r ≡ passes (sound (filled t)) why.Unsound) × (u ≡ fills t) → n ≡ returned (settled r) → Fills n u t
 unfolding fill_number
-fill_done t u b e q = let z : sound (filled t) ≡ true = sym e.0 ∙ q in record { returns = rw z; leaves = e.1 }
+filled-law t u r n w e = record { returns = e ∙ ap (λ (y : Result (Unit {0}) Refusal). returned (settled y)) w.0 ∙ go (sound (filled t)); leaves = w.1 }
+  where
+    go : (b : Bool) → returned (settled (passes b why.Unsound)) ≡ (if b then 0 else number why.Unsound)
+    go true = refl
+    go false = refl
 
-pub fill-not : (t u : List ℕ) (b : Bool) (r : ℕ) → (b ≡ sound (filled t)) × (u ≡ fills t) → b ≡ false → r ≡ number why.Unsound → Fills r u t
-unfolding fill_number
-fill-not t u b r e q n = let z : sound (filled t) ≡ false = sym e.0 ∙ q in record { returns = rw z n; leaves = e.1 }
-
--- what `sae_widen` and `sae_narrow` show
-pub moved-law : (o : Outcome) (u : List ℕ) (m : Moved) (r : ℕ) → Moves o u m → r ≡ returned o → MovesTo r u m
-moved-law o u m r e q = record { returns = q ∙ ap returned e.answer; leaves = e.target }
+-- a move
+pub moved-law : (r : Result (Unit {0}) Refusal) (u : List ℕ) (m : Moved) (n : ℕ) → Moves r u m → n ≡ returned (settled r) → MovesTo n u m
+moved-law r u m n M e = record { returns = e ∙ ap returned M.answer; leaves = M.target }

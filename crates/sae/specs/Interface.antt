@@ -96,6 +96,12 @@ read_parts t frame old =
     let v = view (groups_of (decode_table t).header) frame in
     if sound t then (if v.sequence is 0 then old else parts_octets v frame) else old
 
+-- the same as a value: the octets of the parts, or the cause
+unfoldable pub reading : List ℕ → List ℕ → Result (List ℕ) Refusal
+reading t frame =
+    let v = view (groups_of (decode_table t).header) frame in
+    if sound t then (if v.sequence is 0 then Err why.Body else Ok (parts_octets v frame)) else Err why.Unsound
+
 pub record Reads (r : ℕ) (parts : List ℕ) (given t frame : List ℕ) : Type 0 where
   pub returns : r ≡ read_number t frame
   pub leaves : parts ≡ read_parts t frame given

@@ -5,43 +5,20 @@
 ghost use Rattle.std.specs.Prelude.{◌≡◌, ◌≤◌, length};
 ghost use Rattle.record.specs.SettingsOctets.{settings_of, reserved_zero};
 ghost use Rattle.initial.specs.Initial.{made};
-ghost use Rattle.rules.specs.Book.{event_number};
-ghost use Rattle.answers.specs.Answers.{Leaves, returned};
+ghost use Rattle.answers.specs.Answers.{Leaves, returned, telling, told, told_if_due, none_due};
 ghost use Rattle.calls.specs.Calls.{initializes_from, initiates, kills, receives, expires};
 ghost use Rattle.writer.specs.Writer.{writes_parts, writes_record};
 ghost use Rattle.lookups.specs.Lookups.{asked_returned, asks_deadline, asks_offset, asks_good};
-ghost use Rattle.moves.specs.Moves.{moves};
+ghost use Rattle.moves.specs.Moves.{moves, settled};
 ghost use Rattle.moves.specs.declared.Direction.TheVariants.{Forward, Back};
-ghost use Rattle.sae.specs.Interface.{none_due_flag, frame_octets, framed_octets, frames_octets, answer_octets, is_refused, answer_left, Returns, has_token, has_value, handed_at, handed_length, rest_at, parts_octets, Reads, wrote_number, written_left, Counted, Writes, asked_left, Asks, Fills, MovesTo};
+ghost use Rattle.sae.specs.Interface.{frame_octets, framed_octets, frames_octets, answer_octets, answer_left, Returns, has_token, has_value, handed_at, handed_length, rest_at, parts_octets, reading, Reads, wrote_number, written_left, Counted, Writes, asked_left, Asks, Fills, MovesTo};
 
-use answers::{Answer, Outcome, Refusal};
-use lookups::Asked;
+use answers::Answer;
+use causes::Refusal;
 use message::View;
 use moves::Direction;
 use record::Settings;
-use rules::{Event, Frame, Frames};
-use writer::Wrote;
-
-fn event_of(e: Event) -> u8
-    ensures { result ≡ event_number e }
-{
-    match e {
-        Event::None => 0,
-        Event::Accepted => 1,
-        Event::Abandoned => 2,
-        Event::Ended => 3,
-    }
-}
-
-fn none_due_of(o: Outcome) -> u8
-    ensures { result ≡ none_due_flag o }
-{
-    match o {
-        Outcome::Done => 0,
-        Outcome::NoneDue => 1,
-        Outcome::Refused(_) => 0,
-    }
-}
+use rules::{Frame, Frames};
 
 // The eight octets of a frame.
 fn frame_octets(f: Frame) -> [u8; 8]
@@ -85,19 +62,15 @@ fn frames_octets(f: Frames) -> [u8; 18]
     }
 }
 
-// The octets of an answer.
+// The octets of an answer: no octet says that none was due.
 fn answer_octets(a: Answer) -> [u8; 28]
-    ensures { result ≡ answer_octets a }
+    ensures { result ≡ answer_octets (telling a) }
 {
-    let outcome = a.outcome;
-    let happened = a.event;
     let sends = a.frames;
     let address = a.address;
-    let none = none_due_of(outcome);
-    let event = event_of(happened);
+    let event = u8::from(a.event);
     let frames = frames_octets(sends);
     let mut x = [0u8; 28];
-    octets::put8(&mut x[..], 0, none);
     octets::put8(&mut x[..], 1, event);
     octets::put16(&mut x[..], 2, a.afresh);
     octets::copy_in(&mut x[..], 4, &address[..]);
@@ -105,27 +78,53 @@ fn answer_octets(a: Answer) -> [u8; 28]
     x
 }
 
-// Whether a call was refused.
-fn is_refused(o: Outcome) -> bool
-    ensures { result ≡ is_refused o }
+// None was due: the octet that says so, and zeros.
+fn none_due_octets() -> [u8; 28]
+    ensures { result ≡ answer_octets none_due }
 {
-    match o {
-        Outcome::Done => false,
-        Outcome::NoneDue => false,
-        Outcome::Refused(_) => true,
-    }
+    let mut x = [0u8; 28];
+    octets::put8(&mut x[..], 0, 1);
+    x
 }
 
 // The number to return, and the answer written unless the call was refused.
-fn reply(a: Answer, answer: &mut [u8; 28]) -> u32
-    ensures { (result ≡ returned a.outcome) × (answer.new ≡ answer_left a answer.old) }
+fn reply(r: Result<Answer, Refusal>, answer: &mut [u8; 28]) -> u32
+    ensures { (result ≡ returned (told r).outcome) × (answer.new ≡ answer_left (told r) answer.old) }
 {
-    let o = a.outcome;
-    if is_refused(o) {
-        return answers::returned_of(o);
+    match r {
+        Ok(a) => {
+            *answer = answer_octets(a);
+            0
+        }
+        Err(c) => u32::from(c),
     }
-    *answer = answer_octets(a);
-    answers::returned_of(o)
+}
+
+// The same of the clock, which may find none due.
+fn reply_if_due(r: Result<Option<Answer>, Refusal>, answer: &mut [u8; 28]) -> u32
+    ensures { (result ≡ returned (told_if_due r).outcome) × (answer.new ≡ answer_left (told_if_due r) answer.old) }
+{
+    match r {
+        Ok(Some(a)) => {
+            *answer = answer_octets(a);
+            0
+        }
+        Ok(None) => {
+            *answer = none_due_octets();
+            0
+        }
+        Err(c) => u32::from(c),
+    }
+}
+
+// The number to return of a call that answers nothing else.
+fn number_of(r: Result<(), Refusal>) -> u32
+    ensures { result ≡ returned (settled r) }
+{
+    match r {
+        Ok(()) => 0,
+        Err(c) => u32::from(c),
+    }
 }
 
 // Where the settings' fields lie in their 16 octets, and what is zero in them: one octet behind the count, and the last three.
@@ -159,11 +158,11 @@ fn settings_of(s: [u8; 16]) -> Settings
     let period = octets::get16(&s[..], PERIOD_AT);
     let limit = octets::get8(&s[..], LIMIT_AT);
     Settings {
-        count: count,
+        count,
         groups: [first, second, third],
-        threshold: threshold,
-        period: period,
-        limit: limit,
+        threshold,
+        period,
+        limit,
     }
 }
 
@@ -177,11 +176,11 @@ fn reserved_zero(s: [u8; 16]) -> bool
 }
 
 // Set up from the octets of the settings; cause 1.
-fn initialize_from(t: &mut [u8], own: [u8; 6], s: [u8; 16]) -> Answer
-    ensures { Leaves result t.new (initializes_from made t.old own s) }
+fn initialize_from(t: &mut [u8], own: [u8; 6], s: [u8; 16]) -> Result<Answer, Refusal>
+    ensures { Leaves (told result) t.new (initializes_from made t.old own s) }
 {
     if !reserved_zero(s) {
-        return answers::refuse_with(Refusal::Settings);
+        return Err(Refusal::Settings);
     }
     let settings = settings_of(s);
     engine::initialize(t, own, settings)
@@ -244,20 +243,20 @@ pub fn sae_expire(t: &mut [u8], time: u32, answer: &mut [u8; 28]) -> u32
     ensures { Returns result t.new answer.new answer.old (expires t.old time) }
 {
     let a = engine::expire(t, time);
-    reply(a, answer)
+    reply_if_due(a, answer)
 }
 
 // The number to return, and the length written unless the writer refused.
-fn wrote_reply(w: Wrote, written: &mut u32) -> u32
+fn wrote_reply(w: Result<usize, Refusal>, written: &mut u32) -> u32
     requires { Counted w }
     ensures { (result ≡ wrote_number w) × (written.new ≡ written_left w written.old) }
 {
     match w {
-        Wrote::Length(n) => {
+        Ok(n) => {
             *written = n as u32;
             0
         }
-        Wrote::Refused(c) => answers::number_of(c),
+        Err(c) => u32::from(c),
     }
 }
 
@@ -366,36 +365,40 @@ fn parts_octets(v: View, body: &[u8]) -> [u8; 20]
     x
 }
 
-// Read a frame's parts. Causes 2 and 7.
+// The octets of the parts of a body that is read. Causes 2 and 7.
+fn read(t: &[u8], body: &[u8]) -> Result<[u8; 20], Refusal>
+    ensures { result ≡ reading t.now body.now }
+{
+    let header = table::check(t)?;
+    let Some(v) = message::read(header.settings.listed(), body) else {
+        return Err(Refusal::Body);
+    };
+    Ok(parts_octets(v, body))
+}
+
+// Read a frame's parts.
 pub fn sae_read(t: &[u8], body: &[u8], parts: &mut [u8; 20]) -> u32
     ensures { Reads result parts.new parts.old t.now body.now }
 {
-    let c = table::check(t);
-    let whole = c.sound;
-    if !whole {
-        return 2;
+    match read(t, body) {
+        Ok(x) => {
+            *parts = x;
+            0
+        }
+        Err(c) => u32::from(c),
     }
-    let h = c.header;
-    let list = h.settings.groups;
-    let n = h.settings.count as usize;
-    let v = message::read(&list[..n], body);
-    if v.sequence == 0 {
-        return 7;
-    }
-    *parts = parts_octets(v, body);
-    0
 }
 
 // The number to return, and the number asked for unless the lookup was refused.
-fn asked_reply(a: Asked, number: &mut u32) -> u32
+fn asked_reply(a: Result<u32, Refusal>, number: &mut u32) -> u32
     ensures { (result ≡ asked_returned a) × (number.new ≡ asked_left a number.old) }
 {
     match a {
-        Asked::Number(n) => {
+        Ok(n) => {
             *number = n;
             0
         }
-        Asked::Refused(c) => answers::number_of(c),
+        Err(cause) => u32::from(cause),
     }
 }
 
@@ -427,24 +430,19 @@ pub fn sae_good_links(header: &[u8], good: &mut u32) -> u32
 pub fn sae_fill(t: &mut [u8]) -> u32
     ensures { Fills result t.new t.old }
 {
-    if good_links::fill_good(t) {
-        return 0;
-    }
-    answers::number_of(Refusal::Unsound)
+    number_of(good_links::fill_good(t))
 }
 
 // Move a table of the form with records of 864 octets to that of 1,080, into a target lent beside it.
 pub fn sae_widen(source: &[u8], target: &mut [u8]) -> u32
     ensures { MovesTo result target.new (moves Forward source.now target.old) }
 {
-    let o = moves::move_table(Direction::Forward, source, target);
-    answers::returned_of(o)
+    number_of(moves::move_table(Direction::Forward, source, target))
 }
 
 // And back.
 pub fn sae_narrow(source: &[u8], target: &mut [u8]) -> u32
     ensures { MovesTo result target.new (moves Back source.now target.old) }
 {
-    let o = moves::move_table(Direction::Back, source, target);
-    answers::returned_of(o)
+    number_of(moves::move_table(Direction::Back, source, target))
 }

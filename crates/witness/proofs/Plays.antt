@@ -316,7 +316,7 @@ pub record Tells : Type 0 where
 computed : Plays × Tells
 unfolding octets.part octets.put octets.num octets.oct octets.all_zero octets.same octets.same_address octets.zero_address octets.individual
     octets.higher scan.all_below scan.count_below scan.first_below scan.last_below groups.scalar_length groups.element_length groups.commit_length
-    groups.known groups.stored groups.listed groups.place_from groups.place groups.index_of groups.marked groups.mark groups.first_left groups.commits_of
+    groups.known groups.stored groups.listed groups.index_of groups.marked groups.mark groups.first_left groups.commits_of
     groups.fresh_of groups.fresh_at groups.fresh_for groups.tails_ok groups.fresh_ok groups.listable frame.read_listed frame.read_offer
     frame.read_token_request frame.read_group_refusal frame.read_commit frame.whole_after frame.whole_elements frame.elements_of frame.read_confirm
     frame.read_body frame.token_of frame.scalar_of frame.element_of frame.commit_of frame.value_of frame.head frame.body frame.commit_body
@@ -331,7 +331,7 @@ unfolding octets.part octets.put octets.num octets.oct octets.all_zero octets.sa
     soundness.confirmed_ok soundness.run_ok soundness.finished_ok soundness.link_ok soundness.free_ok soundness.in_use_ok soundness.peer_ok
     soundness.all_listable tables.peers_of tables.octets_of tables.decode_table tables.encode_table tables.slot tables.belongs tables.used_count
     tables.open_count tables.finds tables.free_slot tables.look_by tables.look tables.slots_ok tables.alone tables.addresses_ok tables.counts_ok tables.good_count
-    tables.sound tables.found_entry tables.entry tables.recounted tables.with_peer tables.key tables.new_key initial.slots_for initial.length_ok
+    tables.sound tables.entry tables.recounted tables.with_peer tables.key tables.new_key initial.slots_for initial.length_ok
     initial.initial_header initial.initial_table initial.initial_ok parts.switched parts.with_run book.deadline book.holds book.linked_with book.start_act
     book.commit_idle book.commit_committed book.confirm_confirmed book.commit_act book.confirm_act book.frame_act book.delay book.set_t0 book.supersede
     book.formed_run book.forming book.started_run book.starting book.link_of_run book.accepting book.answering_commit book.confirming_commit book.perform

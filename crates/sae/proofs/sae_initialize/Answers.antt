@@ -1,6 +1,7 @@
 -- `sae::sae_initialize` meets its contract: each return by its law of Laws.
+use Rattle.answers.specs.Answers.{told}
 use Rattle.sae.proofs.Laws.{replied}
 use Rattle.sae.proofs.sae_initialize.Goals as goal
 
 pub returns : goal.returns
-returns c = replied c.initialize_from-a.result _ _ _ _ _ c.initialize_from-a.ensures c.reply.ensures.0 c.reply.ensures.1
+returns c = replied (told c.initialize_from-a.result) _ _ _ _ _ c.initialize_from-a.ensures c.reply.ensures.0 c.reply.ensures.1

@@ -3,4 +3,4 @@ use native.Mathlib.Omega.{arith}
 use Rattle.sae.proofs.wrote_reply.Goals as goal
 
 pub overflow_cast-written : goal.overflow_cast-written
-overflow_cast-written c = omega (arith, c.requires.most _ c.in-Length.is)
+overflow_cast-written c = omega (arith, c.requires.most _ c.in-Ok.is)
