@@ -44,7 +44,7 @@ fn is_linked(peer: &Record, heard: &Heard) -> bool
 
 // "wrong token", Open being at or above the threshold
 fn is_wrong(heard: &Heard) -> bool
-    ensures { result ≡ (heard.now.given.crowded && not (same (take heard.now.view.toklen (message_in heard.now).token) heard.now.given.expected)) }
+    ensures { let d = heard.now in result ≡ (d.given.crowded && not (same (take d.view.toklen (message_in d).token) d.given.expected)) }
 {
     let crowded = heard.given.crowded;
     if !crowded {
@@ -59,7 +59,7 @@ fn is_wrong(heard: &Heard) -> bool
 
 // "equal to our stock's"
 fn equals_fresh(heard: &Heard) -> bool
-    ensures { result ≡ same (message_in heard.now).commit (fresh_for heard.now.stock.groups.now (commits_in heard.now.stock) heard.now.view.group) }
+    ensures { let d = heard.now in result ≡ same (message_in d).commit (fresh_for d.stock.groups.now (commits_in d.stock) d.view.group) }
 {
     let commit = heard.commit();
     let own = heard.stock.fresh_for(heard.view.group);

@@ -133,7 +133,7 @@ fn admit_start(
 // The rule for a start, in a slot. The clauses speak of the table's header, h.
 fn start_at(t: &mut [u8], k: usize, h: Header, g: Given, stock: &Stock) -> Said
     requires { Held t.old h (Some k) × (Lists stock.now h × Clocked g.clock h) }
-    ensures { DoesAt result t.new t.old k (on_start (terms g stock.now.groups.now) (call g (commits_in stock.now)) (slot (decode_table t.old) k)) }
+    ensures { let s = stock.now in DoesAt result t.new t.old k (on_start (terms g s.groups.now) (call g (commits_in s)) (slot (decode_table t.old) k)) }
 {
     let w = stock.width;
     let a = record::record_at(w, k);
@@ -241,7 +241,7 @@ fn admit_frame(
 // The rule for a frame, in a slot. The clauses speak of the table's header, h.
 fn frame_at(t: &mut [u8], k: usize, h: Header, heard: &Heard) -> Said
     requires { Held t.old h (Some k) × (Lists heard.now.stock h × Clocked heard.now.given.clock h) }
-    ensures { DoesAt result t.new t.old k (on_frame (terms_in heard.now) (call_in heard.now) (slot (decode_table t.old) k) (message_in heard.now)) }
+    ensures { let d = heard.now in DoesAt result t.new t.old k (on_frame (terms_in d) (call_in d) (slot (decode_table t.old) k) (message_in d)) }
 {
     let w = heard.stock.width;
     let a = record::record_at(w, k);
@@ -252,7 +252,7 @@ fn frame_at(t: &mut [u8], k: usize, h: Header, heard: &Heard) -> Said
 // No slot is free for a new peer: the rule works on a free record outside the table.
 fn hear_outside(heard: &Heard) -> Result<Answer, Refusal>
     requires { Paced heard.now.given.clock }
-    ensures { told result ≡ answers_outside (on_frame (terms_in heard.now) (call_in heard.now) no_peer (message_in heard.now)) heard.now.given.address }
+    ensures { let d = heard.now in told result ≡ answers_outside (on_frame (terms_in d) (call_in d) no_peer (message_in d)) d.given.address }
 {
     let address = heard.given.address;
     let w = heard.stock.width;
@@ -273,7 +273,8 @@ fn hear(
     heard: &Heard,
 ) -> Result<Answer, Refusal>
     requires { Held t.old h f × (Lists heard.now.stock h × Brought heard.now.given h) }
-    ensures { Leaves (told result) t.new (finishes t.old f (on_frame (terms_of (decode_table t.old) f) (call_in heard.now) (look_by (decode_table t.old) f) (message_in heard.now)) heard.now.given.address) }
+    ensures { let d = heard.now in let T = decode_table t.old in
+        Leaves (told result) t.new (finishes t.old f (on_frame (terms_of T f) (call_in d) (look_by T f) (message_in d)) d.given.address) }
 {
     let n = h.geometry.slots as usize;
     let w = heard.stock.width;

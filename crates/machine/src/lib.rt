@@ -17,7 +17,7 @@ use rules::{Given, Said};
 // A frame.
 pub fn on_frame(s: &mut [u8], heard: &Heard) -> Said
     requires { Whole heard.now.given.clock heard.now.stock.width s.old }
-    ensures { Does heard.now.stock.width result s.new (on_frame (terms_in heard.now) (call_in heard.now) (decode_peer heard.now.stock.width s.old) (message_in heard.now)) }
+    ensures { let d = heard.now in let w = d.stock.width in Does w result s.new (on_frame (terms_in d) (call_in d) (decode_peer w s.old) (message_in d)) }
 {
     let peer = Record {
         octets: s,
@@ -27,7 +27,8 @@ pub fn on_frame(s: &mut [u8], heard: &Heard) -> Said
     perform::perform(s, heard, act)
 }
 
-// A deadline of the record is due: "t0 before t1". No frame is there to be decided on, so the ladder's two rungs stand here.
+// A deadline of the record is due: "t0 before t1". No frame is there to be decided on, so the ladder's two rungs stand here; and no stock comes with the clock,
+// so the width and the groups, of which the clause speaks, stand alone.
 pub fn on_clock(s: &mut [u8], w: usize, g: Given, groups: &[u16]) -> Said
     requires { Whole g.clock w s.old }
     ensures { Does w result s.new (on_clock (terms g groups.now) (call g []) (decode_peer w s.old)) }
@@ -52,7 +53,7 @@ pub fn on_clock(s: &mut [u8], w: usize, g: Given, groups: &[u16]) -> Said
 // A start: the ladder's one rung, and the act.
 pub fn on_start(s: &mut [u8], g: Given, stock: &Stock) -> Said
     requires { Whole g.clock stock.now.width s.old }
-    ensures { Does stock.now.width result s.new (on_start (terms g stock.now.groups.now) (call g (commits_in stock.now)) (decode_peer stock.now.width s.old)) }
+    ensures { let k = stock.now in Does k.width result s.new (on_start (terms g k.groups.now) (call g (commits_in k)) (decode_peer k.width s.old)) }
 {
     let full = g.full;
     if full {

@@ -10,7 +10,8 @@ use frame::Body;
 pub use received::Heard;
 
 // A body by its numbers, as the rules' messages have them: sequence (1 Commit, 2 Confirm), status, group, counter, whether the group is supported, and the
-// length of its token. What a body of its kind does not have is zero.
+// length of its token. What a body of its kind does not have is zero. That the token is short is a ghost field of Heard, and not of this: the definitions make
+// a view of any numbers.
 #[derive(Clone, Copy)]
 pub struct View {
     pub sequence: u16,

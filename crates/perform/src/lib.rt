@@ -57,7 +57,7 @@ fn start(s: &mut [u8], w: usize, address: [u8; 6], group: u16, own: &[u8], clock
 // "Committed, first group, fresh commit, Sync 0, no token, send Commit, set t0."
 pub fn begin(s: &mut [u8], address: [u8; 6], stock: &Stock, clock: Clock) -> Said
     requires { Paced clock × (length s.old ≡ record_size stock.now.width) }
-    ensures { Does stock.now.width result s.new (starting clock (decode_peer stock.now.width s.old) address (get_or stock.now.groups.now 0 0) (fresh_at (commits_in stock.now) 0)) }
+    ensures { let k = stock.now in Does k.width result s.new (starting clock (decode_peer k.width s.old) address (get_or k.groups.now 0 0) (fresh_at (commits_in k) 0)) }
 {
     let groups = stock.groups;
     let group = groups[0];
@@ -88,7 +88,8 @@ fn ask_token(group: u16) -> Said
 // "fresh commit, Form, send Commit and Confirm".
 fn answer_commit(s: &mut [u8], heard: &Heard) -> Said
     requires { Whole heard.now.given.clock heard.now.stock.width s.old }
-    ensures { Does heard.now.stock.width result s.new (answering_commit heard.now.given.clock (decode_peer heard.now.stock.width s.old) heard.now.given.address (message_in heard.now) (fresh_for heard.now.stock.groups.now (commits_in heard.now.stock) heard.now.view.group)) }
+    ensures { let d = heard.now in let k = d.stock in
+        Does k.width result s.new (answering_commit d.given.clock (decode_peer k.width s.old) d.given.address (message_in d) (fresh_for k.groups.now (commits_in k) d.view.group)) }
 {
     let w = heard.stock.width;
     let address = heard.given.address;
@@ -115,7 +116,7 @@ fn answer_commit(s: &mut [u8], heard: &Heard) -> Said
 // "Form, send Confirm".
 fn confirm_commit(s: &mut [u8], heard: &Heard) -> Said
     requires { Whole heard.now.given.clock heard.now.stock.width s.old }
-    ensures { Does heard.now.stock.width result s.new (confirming_commit heard.now.given.clock (decode_peer heard.now.stock.width s.old) heard.now.given.address (message_in heard.now)) }
+    ensures { let d = heard.now in let w = d.stock.width in Does w result s.new (confirming_commit d.given.clock (decode_peer w s.old) d.given.address (message_in d)) }
 {
     let w = heard.stock.width;
     let address = heard.given.address;
@@ -159,7 +160,7 @@ fn switch_to(s: &mut [u8], w: usize, rejected: u8, group: u16, own: &[u8], clock
 // "mark it rejected and take the first group in its own list that is not marked as rejected, with a fresh commit; none, give up."
 fn switch_group(s: &mut [u8], stock: &Stock, clock: Clock) -> Said
     requires { Whole clock stock.now.width s.old }
-    ensures { Does stock.now.width result s.new (switching clock (decode_peer stock.now.width s.old) stock.now.groups.now (commits_in stock.now)) }
+    ensures { let k = stock.now in Does k.width result s.new (switching clock (decode_peer k.width s.old) k.groups.now (commits_in k)) }
 {
     let w = stock.width;
     let groups = stock.groups;
@@ -257,7 +258,7 @@ fn store_token(r: &mut [u8], w: usize, toklen: u16, token: [u8; 256])
 // "store the token, send Commit with it", a Repeat: where that gives up, the run is cleared, and the token with it.
 fn reply_token(s: &mut [u8], heard: &Heard) -> Said
     requires { Whole heard.now.given.clock heard.now.stock.width s.old }
-    ensures { Does heard.now.stock.width result s.new (replying_token heard.now.given.clock (decode_peer heard.now.stock.width s.old) (message_in heard.now)) }
+    ensures { let d = heard.now in let w = d.stock.width in Does w result s.new (replying_token d.given.clock (decode_peer w s.old) (message_in d)) }
 {
     let w = heard.stock.width;
     let clock = heard.given.clock;
@@ -320,8 +321,8 @@ fn hear_again(s: &mut [u8], w: usize, counter: u16) -> Said
 // ---- each act by its name
 
 pub fn perform(s: &mut [u8], heard: &Heard, act: Act) -> Said
-    requires { Whole heard.now.given.clock heard.now.stock.width s.old × Able heard.now.given.clock act (decode_peer heard.now.stock.width s.old) }
-    ensures { Does heard.now.stock.width result s.new (performed (terms_in heard.now) (call_in heard.now) (decode_peer heard.now.stock.width s.old) (message_in heard.now) act) }
+    requires { let d = heard.now in let w = d.stock.width in Whole d.given.clock w s.old × Able d.given.clock act (decode_peer w s.old) }
+    ensures { let d = heard.now in let w = d.stock.width in Does w result s.new (performed (terms_in d) (call_in d) (decode_peer w s.old) (message_in d) act) }
 {
     let w = heard.stock.width;
     let address = heard.given.address;

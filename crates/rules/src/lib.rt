@@ -1,7 +1,8 @@
 // What the rules speak of, as types: what a call gives, the acts by name, and what is said. The rules themselves are definitions (specs/Book).
 #![tactic(auto)]
 
-// The clock's reading, and with it what a table says of times: the first period, and the Sync limit.
+// The clock's reading, and with it what a table says of times: the first period, and the Sync limit. That its longest delay fits 32 bits is asked where one is
+// worked out, and is no ghost field here: the definitions make a clock of the entries of any header.
 #[derive(Clone, Copy)]
 pub struct Clock {
     pub time: u32,

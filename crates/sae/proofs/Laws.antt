@@ -156,12 +156,13 @@ reply-answered r a x given e q = rw e (refl, left-answered a x given q)
 pub reply-refused : (r : Result Answer Refusal) (c : Refusal) (n : ℕ) (given : List ℕ) → r ≡ Err c → n ≡ number c → (n ≡ returned (told r).outcome) × (given ≡ answer_left (told r) given)
 reply-refused r c n given e q = rw e (q ∙ refused-number c, left-refused c given)
 
-pub due-answered : (r : Result (Option Answer) Refusal) (a : Answer) (x given : List ℕ) → r ≡ Ok (Some a) → x ≡ answer_octets (telling a)
+pub due-answered : (r : Result (Option Answer) Refusal) (f : Option Answer) (a : Answer) (x given : List ℕ) → r ≡ Ok f → f ≡ Some a → x ≡ answer_octets (telling a)
     → (0 ≡ returned (told_if_due r).outcome) × (x ≡ answer_left (told_if_due r) given)
-due-answered r a x given e q = rw e (refl, left-answered a x given q)
+due-answered r f a x given e v q = rw e (rw v (refl, left-answered a x given q))
 
-pub due-none : (r : Result (Option Answer) Refusal) (x given : List ℕ) → r ≡ Ok None → x ≡ answer_octets none_due → (0 ≡ returned (told_if_due r).outcome) × (x ≡ answer_left (told_if_due r) given)
-due-none r x given e q = rw e (none-due-number, left-none-due x given q)
+pub due-none : (r : Result (Option Answer) Refusal) (f : Option Answer) (x given : List ℕ) → r ≡ Ok f → f ≡ None → x ≡ answer_octets none_due
+    → (0 ≡ returned (told_if_due r).outcome) × (x ≡ answer_left (told_if_due r) given)
+due-none r f x given e v q = rw e (rw v (none-due-number, left-none-due x given q))
 
 pub due-refused : (r : Result (Option Answer) Refusal) (c : Refusal) (n : ℕ) (given : List ℕ) → r ≡ Err c → n ≡ number c → (n ≡ returned (told_if_due r).outcome) × (given ≡ answer_left (told_if_due r) given)
 due-refused r c n given e q = rw e (q ∙ refused-number c, left-refused c given)
