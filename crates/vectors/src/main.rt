@@ -15,9 +15,12 @@
 ghost use Rattle.std.specs.Prelude.{◌<◌, ◌≤◌, length, IfOk};
 
 use answers::Answer;
+use causes::Refusal;
 use frame::Body;
+use groups::COMMIT;
 use record::Settings;
 use rules::{Event, Frame, Frames};
+use std::fmt;
 use std::io::{self, Read};
 
 // Our own address, and the peer's.
@@ -25,519 +28,345 @@ const OWN: [u8; 6] = [2, 0, 0, 0, 0, 1];
 
 const PEER: [u8; 6] = [2, 0, 0, 0, 0, 2];
 
-// The octets of a table of one slot.
+// The octets of a table of one slot, and where its header has the number of groups.
 const TABLE: usize = 1112;
 
-// As many octets of the input are played.
+const GROUPS_AT: usize = 22;
+
+// Settings with group 19 alone.
+const ONLY_19: Settings = Settings {
+    count: 1,
+    groups: [19, 0, 0],
+    threshold: 5,
+    period: 0,
+    limit: 0,
+};
+
+// The most octets of the input that are played, and the most octets that are taken of a line's HEX: both are held in arrays, since a list that grows would
+// make the program rest on the heap's contracts besides those of reading and writing.
 const TEXT: usize = 65536;
 
-// What the reader hands back of a body: its numbers, where its token or what stands behind a Confirm begins and how long it is, and where scalar
-// or value stands.
-#[derive(Clone, Copy)]
-struct Parts {
-    sequence: u16,
-    status: u16,
-    group: u16,
-    counter: u16,
-    handed: usize,
-    length: usize,
-    rest: usize,
-}
+const LONGEST: usize = 2400;
 
-fn wide16(x: u16) -> u64 {
-    x as u64
-}
+// As many readings a silent clock has, unless the run is given up before.
+const READINGS: u32 = 100_000;
 
-fn wide32(x: u32) -> u64 {
-    x as u64
-}
+// The sequence numbers of Commits and Confirms, and the length of a Confirm's value.
+const COMMITS: u16 = 1;
 
-fn wide_size(x: usize) -> u64 {
-    x as u64
-}
+const CONFIRMS: u16 = 2;
+
+const VALUE: usize = 32;
 
 // ---- what is written
 
-fn number(rt: &impl Print, n: u64) -> io::Result<()> {
-    print!(rt; " {n}")
-}
+// A value of another crate, as it is written here.
+#[derive(Drop)]
+struct Shown<T>(T);
 
-fn ends(rt: &impl Print) -> io::Result<()> {
-    println!(rt; "")
-}
-
-fn print_body(rt: &impl Print, b: Body) -> io::Result<()> {
-    match b {
-        Body::Commit { group, token } => {
-            print!(rt; " commit")?;
-            number(rt, wide16(group))?;
-            number(rt, wide_size(token))
-        }
-        Body::Unsupported { group } => {
-            print!(rt; " unsupported")?;
-            number(rt, wide16(group))
-        }
-        Body::TokenRequest { group, token } => {
-            print!(rt; " token-request")?;
-            number(rt, wide16(group))?;
-            number(rt, wide_size(token))
-        }
-        Body::GroupRefusal { group } => {
-            print!(rt; " group-refusal")?;
-            number(rt, wide16(group))
-        }
-        Body::OtherCommit { status } => {
-            print!(rt; " commit-status")?;
-            number(rt, wide16(status))
-        }
-        Body::Confirm { counter } => {
-            print!(rt; " confirm")?;
-            number(rt, wide16(counter))
-        }
-        Body::OtherConfirm { status } => {
-            print!(rt; " confirm-status")?;
-            number(rt, wide16(status))
-        }
-        Body::Malformed => {
-            print!(rt; " refused")?;
-            number(rt, 7)
+impl fmt::Display for Shown<Body> {
+    fn fmt<W: fmt::Write>(&self, f: &mut fmt::Formatter<W>) -> fmt::Result {
+        match self.0 {
+            Body::Commit { group, token } => write!(f, "commit {group} {token}"),
+            Body::Unsupported { group } => write!(f, "unsupported {group}"),
+            Body::TokenRequest { group, token } => write!(f, "token-request {group} {token}"),
+            Body::GroupRefusal { group } => write!(f, "group-refusal {group}"),
+            Body::OtherCommit { status } => write!(f, "commit-status {status}"),
+            Body::Confirm { counter } => write!(f, "confirm {counter}"),
+            Body::OtherConfirm { status } => write!(f, "confirm-status {status}"),
         }
     }
 }
 
-fn print_frame(rt: &impl Print, f: Frame) -> io::Result<()> {
-    print!(rt; ",")?;
-    number(rt, wide16(f.sequence))?;
-    number(rt, wide16(f.status))?;
-    number(rt, wide16(f.group))?;
-    number(rt, wide16(f.counter))
+impl fmt::Display for Shown<Frame> {
+    fn fmt<W: fmt::Write>(&self, f: &mut fmt::Formatter<W>) -> fmt::Result {
+        let Frame {
+            sequence,
+            status,
+            group,
+            counter,
+        } = self.0;
+        write!(f, "{sequence} {status} {group} {counter}")
+    }
 }
 
-fn print_frames(rt: &impl Print, fs: Frames) -> io::Result<()> {
-    match fs {
-        Frames::None => Ok(()),
-        Frames::One(f) => print_frame(rt, f),
-        Frames::Two(f, g) => {
-            print_frame(rt, f)?;
-            print_frame(rt, g)
+impl fmt::Display for Shown<Answer> {
+    fn fmt<W: fmt::Write>(&self, f: &mut fmt::Formatter<W>) -> fmt::Result {
+        let Answer {
+            event,
+            frames,
+            afresh,
+            ..
+        } = self.0;
+        write!(f, "0 {} {afresh}", u8::from(event))?;
+        match frames {
+            Frames::None => Ok(()),
+            Frames::One(first) => write!(f, ", {}", Shown(first)),
+            Frames::Two(first, second) => write!(f, ", {}, {}", Shown(first), Shown(second)),
         }
     }
 }
 
-fn event_number(e: Event) -> u64 {
-    match e {
-        Event::None => 0,
-        Event::Accepted => 1,
-        Event::Abandoned => 2,
-        Event::Ended => 3,
+// A refusal has no event, used no stock and names no frames.
+impl fmt::Display for Shown<Result<Answer, Refusal>> {
+    fn fmt<W: fmt::Write>(&self, f: &mut fmt::Formatter<W>) -> fmt::Result {
+        match self.0 {
+            Ok(answer) => write!(f, "{}", Shown(answer)),
+            Err(cause) => write!(f, "{} 0 0", u32::from(cause)),
+        }
     }
 }
 
-fn print_answer(rt: &impl Print, a: Answer) -> io::Result<()> {
-    let o = a.outcome;
-    let e = a.event;
-    let fs = a.frames;
-    number(rt, wide32(answers::returned_of(o)))?;
-    number(rt, event_number(e))?;
-    number(rt, wide16(a.afresh))?;
-    print_frames(rt, fs)?;
-    ends(rt)
+fn verdict(same: bool) -> &'static str {
+    if same { "agrees" } else { "differs" }
 }
 
-// ---- hexadecimal
+// ---- what a line has
 
-// A digit's value; 0 where it is none.
+// A digit's value; any other octet counts as 0. Not `to_digit`, which takes capital letters too.
 fn digit(c: u8) -> u8
     ensures { result < 16 }
 {
-    if c >= 48 {
-        if c <= 57 {
-            return c - 48;
-        }
+    match c {
+        b'0'..=b'9' => c - b'0',
+        b'a'..=b'f' => c - b'a' + 10,
+        _ => 0,
     }
-    if c >= 97 {
-        if c <= 102 {
-            return c - 87;
-        }
-    }
-    0
 }
 
-fn octet(high: u8, low: u8) -> u8 {
-    digit(high) * 16 + digit(low)
-}
-
-// The octets of the text, as many as there is room for; answers how many.
-fn unhex(text: &[u8], out: &mut [u8]) -> usize {
-    let n = text.len() / 2;
-    let mut i: usize = 0;
-    while i < 2400 {
-        if i >= n {
-            return i;
-        }
-        if i >= out.len() {
-            return i;
-        }
-        out[i] = octet(text[2 * i], text[2 * i + 1]);
-        i += 1;
+// The octets of the text, two digits for each, as many as there is room for; a last digit alone is left out.
+fn unhex<'a>(text: &[u8], out: &'a mut [u8]) -> &'a [u8] {
+    let (pairs, _) = text.as_chunks::<2>();
+    for (octet, [high, low]) in out.iter_mut().zip(pairs) {
+        *octet = 16 * digit(*high) + digit(*low);
     }
-    i
+    first(out, pairs.len())
 }
 
-// The number that the text has in decimal, as far as it is below 65,536.
-fn decimal(text: &[u8]) -> u64 {
-    let mut n: u64 = 0;
-    let mut i: usize = 0;
-    while i < text.len() {
-        if n > 65535 {
-            return n;
-        }
-        let d = digit(text[i]);
-        n = n * 10 + d as u64;
-        i += 1;
+// The number that the text has in decimal, if it is below 65,536; each octet counts as in HEX.
+fn decimal(text: &[u8]) -> Option<u16> {
+    let mut n: u16 = 0;
+    for c in text {
+        n = n.checked_mul(10)?.checked_add(u16::from(digit(*c)))?;
     }
-    n
+    Some(n)
 }
-
-// ---- parts of a slice
 
 // The first n octets, or all.
 fn first(s: &[u8], n: usize) -> &[u8] {
-    if n > s.len() {
-        return s;
-    }
-    let start: usize = 0;
-    &s[start..n]
+    s.get(..n).unwrap_or(s)
 }
 
 // The octets from an offset on, or none.
 fn from(s: &[u8], at: usize) -> &[u8] {
-    let all = s.len();
-    if at > all {
-        return &s[all..all];
-    }
-    &s[at..all]
+    s.get(at..).unwrap_or(&[])
 }
 
-// Where the part that begins at `from` ends: at the mark, or with the text.
-fn end(s: &[u8], from: usize, mark: u8) -> usize
-    requires { from ≤ length s.now }
-    ensures { (from ≤ result) × (result ≤ length s.now) }
-{
-    let mut i = from;
-    while i < s.len() {
-        if s[i] == mark {
-            return i;
+// ---- a body's parts
+
+// What the reader hands back of a body. Octets that it does not have are an empty slice, as the writer takes them.
+#[derive(Clone, Copy)]
+struct Parts<'a> {
+    sequence: u16,
+    status: u16,
+    group: u16,
+    counter: u16,
+    // A Commit's token, or what stands behind a Confirm.
+    handed: &'a [u8],
+    // Scalar and element, or a Confirm's value.
+    rest: &'a [u8],
+}
+
+impl<'a> Parts<'a> {
+    // None where the reader refuses the body.
+    fn read(table: &[u8], body: &'a [u8]) -> Option<Parts<'a>> {
+        // As many octets as the C function fills.
+        let mut parts = [0u8; 20];
+        if sae::sae_read(table, body, &mut parts) != 0 {
+            return None;
         }
-        i += 1;
+        let sequence = octets::get16(&parts, 0);
+        let handed = from(body, octets::get32(&parts, 8) as usize);
+        let rest = match octets::get32(&parts, 16) {
+            0 => &[],
+            at => from(body, at as usize),
+        };
+        Some(Parts {
+            sequence,
+            status: octets::get16(&parts, 2),
+            group: octets::get16(&parts, 4),
+            counter: octets::get16(&parts, 6),
+            handed: first(handed, octets::get32(&parts, 12) as usize),
+            rest: if sequence == CONFIRMS {
+                first(rest, VALUE)
+            } else {
+                rest
+            },
+        })
     }
-    i
-}
 
-// ---- what a body is
-
-fn read_of(body: &[u8]) -> Body {
-    let groups: [u16; 2] = [19, 20];
-    frame::read(&groups, body)
-}
-
-// The body is kept; answers its length.
-fn run_read(rt: &impl Print, text: &[u8], body: &mut [u8]) -> io::Result<usize> {
-    let n = unhex(text, body);
-    let b = read_of(first(body, n));
-    print!(rt; "read")?;
-    number(rt, wide_size(n))?;
-    print_body(rt, b)?;
-    ends(rt)?;
-    Ok(n)
-}
-
-// ---- a body's fields, and the body written again
-
-// The octets of the parts; zeros where the reader refuses.
-fn read_parts(t: &[u8], body: &[u8]) -> [u8; 20] {
-    let mut x = [0u8; 20];
-    sae::sae_read(t, body, &mut x);
-    x
-}
-
-fn parts_of(x: [u8; 20]) -> Parts {
-    let handed = octets::get32(&x[..], 8);
-    let length = octets::get32(&x[..], 12);
-    let rest = octets::get32(&x[..], 16);
-    Parts {
-        sequence: octets::get16(&x[..], 0),
-        status: octets::get16(&x[..], 2),
-        group: octets::get16(&x[..], 4),
-        counter: octets::get16(&x[..], 6),
-        handed: handed as usize,
-        length: length as usize,
-        rest: rest as usize,
-    }
-}
-
-// The part handed back if the body's sequence is this one: a Commit's token, or what stands behind a Confirm.
-fn handed_in(body: &[u8], p: Parts, sequence: u16) -> &[u8] {
-    let part = first(from(body, p.handed), p.length);
-    if p.sequence != sequence {
-        return first(part, 0);
-    }
-    part
-}
-
-// Scalar and element, or a Confirm's value of 32 octets; 0 is handed back for a body that has neither.
-fn rest_in(body: &[u8], p: Parts) -> &[u8] {
-    let rest = from(body, p.rest);
-    if p.rest == 0 {
-        return first(rest, 0);
-    }
-    if p.sequence == 2 {
-        return first(rest, 32);
-    }
-    rest
-}
-
-// A field of octets by the first letter of its name.
-fn has_octets(letter: u8, body: &[u8], p: Parts, wanted: &[u8]) -> bool {
-    let scalar = groups::scalar_length(p.group);
-    let rest = rest_in(body, p);
-    if letter == b't' {
-        return octets::is_same(handed_in(body, p, 1), wanted);
-    }
-    if letter == b'b' {
-        return octets::is_same(handed_in(body, p, 2), wanted);
-    }
-    if letter == b's' {
-        return octets::is_same(first(rest, scalar), wanted);
-    }
-    if letter == b'e' {
-        return (p.sequence == 1) & octets::is_same(from(rest, scalar), wanted);
-    }
-    if letter == b'v' {
-        return (p.sequence == 2) & octets::is_same(rest, wanted);
-    }
-    false
-}
-
-// A field by the first letter of its name, as the text has it; a refused body has none.
-fn has(letter: u8, body: &[u8], p: Parts, text: &[u8]) -> bool {
-    let mut wanted = [0u8; 2400];
-    if p.sequence == 0 {
-        return false;
-    }
-    if letter == b'g' {
-        return wide16(p.group) == decimal(text);
-    }
-    if letter == b'c' {
-        return wide16(p.counter) == decimal(text);
-    }
-    let n = unhex(text, &mut wanted);
-    has_octets(letter, body, p, first(&wanted, n))
-}
-
-fn print_same(rt: &impl Print, same: bool) -> io::Result<()> {
-    if same {
-        return println!(rt; " agrees");
-    }
-    println!(rt; " differs")
-}
-
-// The field's name, a space, then what is published for it.
-fn run_has(rt: &impl Print, text: &[u8], t: &[u8], body: &[u8]) -> io::Result<()> {
-    if text.len() == 0 {
-        return Ok(());
-    }
-    let p = parts_of(read_parts(t, body));
-    let e = end(text, 0, b' ');
-    rt.write_all(first(text, e))?;
-    print_same(rt, has(text[0], body, p, from(from(text, e), 1)))
-}
-
-// The parts are written into a lent buffer; answers the length written, 0 where the writer refuses.
-fn write_again(t: &[u8], body: &[u8], p: Parts, out: &mut [u8]) -> usize {
-    let mut written: u32 = 0;
-    sae::sae_write_parts(
-        t,
-        p.sequence,
-        p.status,
-        p.group,
-        p.counter,
-        handed_in(body, p, 1),
-        rest_in(body, p),
-        out,
-        &mut written,
-    );
-    written as usize
-}
-
-fn run_again(rt: &impl Print, t: &[u8], body: &[u8]) -> io::Result<()> {
-    let mut out = [170u8; 2400];
-    let p = parts_of(read_parts(t, body));
-    let n = write_again(t, body, p, &mut out);
-    print!(rt; "again")?;
-    number(rt, wide_size(n))?;
-    print_same(rt, octets::is_same(first(&out, n), body))
-}
-
-// ---- calls
-
-fn run_new(rt: &impl Print, t: &mut [u8]) -> io::Result<()> {
-    print!(rt; "new")?;
-    print_answer(rt, engine::initialize(t, OWN, Settings::factory()))
-}
-
-fn run_only(rt: &impl Print, t: &mut [u8]) -> io::Result<()> {
-    let settings = Settings {
-        count: 1,
-        groups: [19, 0, 0],
-        threshold: 5,
-        period: 0,
-        limit: 0,
-    };
-    print!(rt; "only")?;
-    print_answer(rt, engine::initialize(t, OWN, settings))
-}
-
-// The stock's length goes by the header's count of groups.
-fn begin(t: &mut [u8], two: bool) -> Answer {
-    let stock = [0u8; 396];
-    if two {
-        return engine::initiate(t, PEER, 0, &stock);
-    }
-    engine::initiate(t, PEER, 0, &stock[..198])
-}
-
-fn received(t: &mut [u8], body: &[u8], two: bool) -> Answer {
-    let stock = [0u8; 396];
-    let expected = [9u8; 32];
-    if two {
-        return engine::receive(t, PEER, 0, body, &stock, &expected, 1);
-    }
-    engine::receive(t, PEER, 0, body, &stock[..198], &expected, 1)
-}
-
-fn has_two(t: &[u8]) -> bool {
-    if t.len() > 22 {
-        return t[22] == 2;
-    }
-    false
-}
-
-fn run_begin(rt: &impl Print, t: &mut [u8]) -> io::Result<()> {
-    let two = has_two(t);
-    print!(rt; "begin")?;
-    print_answer(rt, begin(t, two))
-}
-
-fn run_frame(rt: &impl Print, text: &[u8], t: &mut [u8]) -> io::Result<()> {
-    let mut body = [0u8; 2400];
-    let n = unhex(text, &mut body);
-    let two = has_two(t);
-    print!(rt; "frame")?;
-    print_answer(rt, received(t, first(&body, n), two))
-}
-
-// One reading of the clock; answers whether a run was given up.
-fn tick(rt: &impl Print, t: &mut [u8], time: u32) -> io::Result<bool> {
-    let a = engine::expire(t, time);
-    let e = a.event;
-    let fs = a.frames;
-    match fs {
-        Frames::None => {}
-        Frames::One(_) => {
-            number(rt, wide32(time))?;
-        }
-        Frames::Two(_, _) => {
-            number(rt, wide32(time))?;
+    fn token(&self) -> &'a [u8] {
+        if self.sequence == COMMITS {
+            self.handed
+        } else {
+            &[]
         }
     }
-    if event_number(e) == 2 {
-        print!(rt; " given up")?;
-        number(rt, wide32(time))?;
-        return Ok(true);
-    }
-    Ok(false)
-}
 
-fn run_silent(rt: &impl Print, t: &mut [u8]) -> io::Result<()> {
-    let mut time: u32 = 0;
-    print!(rt; "silent")?;
-    while time < 100000 {
-        if tick(rt, t, time)? {
-            return ends(rt);
+    fn behind(&self) -> &'a [u8] {
+        if self.sequence == CONFIRMS {
+            self.handed
+        } else {
+            &[]
         }
-        time += 1;
     }
-    ends(rt)
+
+    // Whether a field, by the first letter of its name, is what the text has.
+    fn has(&self, letter: u8, text: &[u8]) -> bool {
+        let mut out = [0; LONGEST];
+        let wanted = unhex(text, &mut out);
+        let scalar = groups::scalar_length(self.group);
+        match letter {
+            b'g' => decimal(text) == Some(self.group),
+            b'c' => decimal(text) == Some(self.counter),
+            b't' => self.token() == wanted,
+            b'b' => self.behind() == wanted,
+            b's' => first(self.rest, scalar) == wanted,
+            b'e' => self.sequence == COMMITS && from(self.rest, scalar) == wanted,
+            b'v' => self.sequence == CONFIRMS && self.rest == wanted,
+            _ => false,
+        }
+    }
 }
 
-// A call, or a remark, by the first letter of its line.
-fn run_call(rt: &impl Print, line: &[u8], t: &mut [u8]) -> io::Result<()> {
-    if line.len() < 3 {
-        return Ok(());
-    }
-    let c = line[0];
-    if c == b'#' {
-        rt.write_all(line)?;
-        return ends(rt);
-    }
-    if c == b'n' {
-        return run_new(rt, t);
-    }
-    if c == b'o' {
-        return run_only(rt, t);
-    }
-    if c == b'b' {
-        return run_begin(rt, t);
-    }
-    if c == b's' {
-        return run_silent(rt, t);
-    }
-    if c == b'f' {
-        return run_frame(rt, from(line, 6), t);
-    }
-    Ok(())
+// ---- cases
+
+// A stock of zeros for two groups.
+static STOCK: [u8; 2 * COMMIT] = [0; 2 * COMMIT];
+
+// The table that stands, and the body read last.
+#[derive(Drop)]
+struct Bench {
+    table: [u8; TABLE],
+    body: [u8; LONGEST],
+    length: usize,
 }
 
-// A case by the first letter of its line; the first n octets of `body` are the body read last, whose length is answered.
-fn run_line(
-    rt: &impl Print,
-    line: &[u8],
-    t: &mut [u8],
-    body: &mut [u8],
-    n: usize,
-) -> io::Result<usize> {
-    if line.len() < 3 {
-        return Ok(n);
+impl Bench {
+    // The stock goes by the header's number of groups.
+    fn stock(&self) -> &'static [u8] {
+        if self.table[GROUPS_AT] == 2 {
+            &STOCK
+        } else {
+            &STOCK[..COMMIT]
+        }
     }
-    let c = line[0];
-    if c == b'r' {
-        return run_read(rt, from(line, 5), body);
-    }
-    if c == b'h' {
-        run_has(rt, from(line, 4), t, first(body, n))?;
-        return Ok(n);
-    }
-    if c == b'a' {
-        run_again(rt, t, first(body, n))?;
-        return Ok(n);
-    }
-    run_call(rt, line, t)?;
-    Ok(n)
-}
 
-fn run_all(rt: &impl Print, s: &[u8], t: &mut [u8], body: &mut [u8]) -> io::Result<()> {
-    let mut n: usize = 0;
-    let mut i: usize = 0;
-    while i < s.len() {
-        let e = end(s, i, b'\n');
-        n = run_line(rt, &s[i..e], t, body, n)?;
-        if e >= s.len() {
+    fn body(&self) -> &[u8] {
+        first(&self.body, self.length)
+    }
+
+    fn read(&mut self, rt: &impl Print, text: &[u8]) -> io::Result<()> {
+        self.length = unhex(text, &mut self.body).len();
+        let length = self.length;
+        match frame::read(&[19, 20], self.body()) {
+            None => println!(rt; "read {length} refused 7"),
+            Some(body) => println!(rt; "read {length} {}", Shown(body)),
+        }
+    }
+
+    // The field's name, a space, then what is published for it.
+    fn has(&self, rt: &impl Print, text: &[u8]) -> io::Result<()> {
+        let Some(&letter) = text.first() else {
+            return Ok(());
+        };
+        let end = text.iter().position(|c| *c == b' ').unwrap_or(text.len());
+        let same = match Parts::read(&self.table, self.body()) {
+            None => false,
+            Some(parts) => parts.has(letter, from(text, end + 1)),
+        };
+        rt.write_all(&text[..end])?;
+        println!(rt; " {}", verdict(same))
+    }
+
+    fn again(&self, rt: &impl Print) -> io::Result<()> {
+        // 170 shows what the C function left out.
+        let mut out = [170; LONGEST];
+        let mut length = 0;
+        if let Some(parts) = Parts::read(&self.table, self.body()) {
+            sae::sae_write_parts(
+                &self.table,
+                parts.sequence,
+                parts.status,
+                parts.group,
+                parts.counter,
+                parts.token(),
+                parts.rest,
+                &mut out,
+                &mut length,
+            );
+        }
+        let same = first(&out, length as usize) == self.body();
+        println!(rt; "again {length} {}", verdict(same))
+    }
+
+    fn set_up(&mut self, rt: &impl Print, name: &str, settings: Settings) -> io::Result<()> {
+        let answer = engine::initialize(&mut self.table, OWN, settings);
+        println!(rt; "{name} {}", Shown(answer))
+    }
+
+    fn begin(&mut self, rt: &impl Print) -> io::Result<()> {
+        let stock = self.stock();
+        let answer = engine::initiate(&mut self.table, PEER, 0, stock);
+        println!(rt; "begin {}", Shown(answer))
+    }
+
+    fn frame(&mut self, rt: &impl Print, text: &[u8]) -> io::Result<()> {
+        let mut out = [0; LONGEST];
+        let body = unhex(text, &mut out);
+        let stock = self.stock();
+        let answer = engine::receive(&mut self.table, PEER, 0, body, stock, &[9; 32], 1);
+        println!(rt; "frame {}", Shown(answer))
+    }
+
+    fn silent(&mut self, rt: &impl Print) -> io::Result<()> {
+        print!(rt; "silent")?;
+        for time in 0..READINGS {
+            let Ok(Some(answer)) = engine::expire(&mut self.table, time) else {
+                continue;
+            };
+            if !matches!(answer.frames, Frames::None) {
+                print!(rt; " {time}")?;
+            }
+            if matches!(answer.event, Event::Abandoned) {
+                print!(rt; " given up {time}")?;
+                break;
+            }
+        }
+        println!(rt; "")
+    }
+
+    // A case, or a remark, by the first letter of its line.
+    fn play(&mut self, rt: &impl Print, line: &[u8]) -> io::Result<()> {
+        if line.len() < 3 {
             return Ok(());
         }
-        i = e + 1;
+        match line[0] {
+            b'#' => {
+                rt.write_all(line)?;
+                println!(rt; "")
+            }
+            b'r' => self.read(rt, from(line, 5)),
+            b'h' => self.has(rt, from(line, 4)),
+            b'a' => self.again(rt),
+            b'n' => self.set_up(rt, "new", Settings::factory()),
+            b'o' => self.set_up(rt, "only", ONLY_19),
+            b'b' => self.begin(rt),
+            b'f' => self.frame(rt, from(line, 6)),
+            b's' => self.silent(rt),
+            _ => Ok(()),
+        }
     }
-    Ok(())
 }
 
 // Reads until the buffer is full or the input ends; answers how many octets came.
@@ -556,9 +385,15 @@ fn read_full(input: &mut impl Read, buffer: &mut [u8]) -> io::Result<usize>
 }
 
 fn main(rt: HostRuntime) -> io::Result<()> {
-    let mut text = [0u8; TEXT];
-    let mut t = [0u8; TABLE];
-    let mut body = [0u8; 2400];
+    let mut text = [0; TEXT];
     let n = read_full(&mut rt.reader(), &mut text)?;
-    run_all(&rt, &text[..n], &mut t, &mut body)
+    let mut bench = Bench {
+        table: [0; TABLE],
+        body: [0; LONGEST],
+        length: 0,
+    };
+    for line in text[..n].split(|c| *c == b'\n') {
+        bench.play(&rt, line)?;
+    }
+    Ok(())
 }
