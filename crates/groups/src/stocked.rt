@@ -26,17 +26,13 @@ impl<'a> Stock<'a> {
         requires { i < length self.now.groups.now }
         ensures { (length result.now ≡ self.now.width) × (stored result.now ≡ fresh_at (commits_in self.now) i) }
     {
-        let w = self.width;
-        let a = w * i;
-        let e = a + w;
-        &self.fresh[a..e]
+        crate::fresh_at(self.fresh, self.width, i)
     }
 
     // The fresh commit of a listed group.
     pub fn fresh_for(&self, group: u16) -> &'a [u8]
         ensures { (length result.now ≡ self.now.width) × (stored result.now ≡ fresh_for self.now.groups.now (commits_in self.now) group) }
     {
-        let i = crate::index_of(self.groups, group);
-        self.fresh_at(i)
+        crate::fresh_for(self.groups, self.fresh, self.width, group)
     }
 }

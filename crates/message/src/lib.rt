@@ -1,8 +1,9 @@
 // What the rules see of a frame: one view of its body, made when the body is read, and the message that it gives.
 #![tactic(auto)]
 
-ghost use Rattle.std.specs.Prelude.{◌≡◌, ◌≤◌, IfSome};
-ghost use Rattle.message.specs.View.{commit_view, confirm_view, view_of, read_view};
+ghost use Rattle.std.specs.Prelude.{◌≡◌, ◌≤◌, IfSome, length};
+ghost use Rattle.groups.specs.Groups.{width, stored};
+ghost use Rattle.message.specs.View.{commit_view, confirm_view, view_of, read_view, message_of};
 
 mod received;
 
@@ -71,4 +72,25 @@ pub fn read(groups: &[u16], body: &[u8]) -> Option<View>
 {
     let b = frame::read(groups, body)?;
     Some(view_of(b))
+}
+
+// The token of a body that was read, as it is stored.
+pub fn token(body: &[u8], v: View) -> [u8; 256]
+    requires { v.toklen ≤ 256 }
+    ensures { result ≡ (message_of body.now v).token }
+{
+    let n = v.toklen as usize;
+    octets::filled(frame::token_of(body, n))
+}
+
+// The scalar and the element of a body that was read, where they lie, if it is a supported Commit; of any other body no octets.
+pub fn commit(body: &[u8], v: View) -> &[u8]
+    ensures { (length result.now ≤ width) × (stored result.now ≡ (message_of body.now v).commit) }
+{
+    let listed = v.listed;
+    if listed {
+        let n = v.toklen as usize;
+        return frame::commit_of(body, v.group, n);
+    }
+    &body[..0]
 }

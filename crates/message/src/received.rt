@@ -30,21 +30,13 @@ impl<'b, 's> Heard<'b, 's> {
     pub fn token(&self) -> [u8; 256]
         ensures { result ≡ (message_in self.now).token }
     {
-        let n = self.view.toklen as usize;
-        octets::filled(frame::token_of(self.body, n))
+        crate::token(self.body, self.view)
     }
 
     // The scalar and the element, where they lie, if the frame is a supported Commit; of any other no octets.
     pub fn commit(&self) -> &'b [u8]
         ensures { (length result.now ≤ width) × (stored result.now ≡ (message_in self.now).commit) }
     {
-        let body = self.body;
-        let v = self.view;
-        let listed = v.listed;
-        if listed {
-            let n = v.toklen as usize;
-            return frame::commit_of(body, v.group, n);
-        }
-        &body[..0]
+        crate::commit(self.body, self.view)
     }
 }

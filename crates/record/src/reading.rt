@@ -3,12 +3,62 @@
 
 ghost use Rattle.std.specs.Prelude.{◌≡◌, ◌≤◌, length};
 ghost use Rattle.groups.specs.Groups.{width as most_width};
-ghost use Rattle.record.specs.Layout.{record_size};
+ghost use Rattle.record.specs.Layout.{record_size, decode_peer};
 
 use crate::{
     FINISHED, GROUP, LINK_GROUP, LINK_SYNC, RC, REJECTED, RUN, RUN_OWN, SC, STATE, SYNC, T0, T1,
     TOKEN, TOKLEN, link_at, link_peer_at, run_token_at,
 };
+
+// The run's fields before its commit lie where they lie at any width, so these ask for less than a Record, which bounds its own.
+pub fn state_of(s: &[u8], w: usize) -> u8
+    requires { length s.now ≡ record_size w }
+    ensures { result ≡ (decode_peer w s.now).run.state }
+{
+    octets::get8(s, RUN + STATE)
+}
+
+pub fn sync_of(s: &[u8], w: usize) -> u8
+    requires { length s.now ≡ record_size w }
+    ensures { result ≡ (decode_peer w s.now).run.sync }
+{
+    octets::get8(s, RUN + SYNC)
+}
+
+pub fn rejected_of(s: &[u8], w: usize) -> u8
+    requires { length s.now ≡ record_size w }
+    ensures { result ≡ (decode_peer w s.now).run.rejected }
+{
+    octets::get8(s, RUN + REJECTED)
+}
+
+pub fn sc_of(s: &[u8], w: usize) -> u16
+    requires { length s.now ≡ record_size w }
+    ensures { result ≡ (decode_peer w s.now).run.sc }
+{
+    octets::get16(s, RUN + SC)
+}
+
+pub fn group_of(s: &[u8], w: usize) -> u16
+    requires { length s.now ≡ record_size w }
+    ensures { result ≡ (decode_peer w s.now).run.group }
+{
+    octets::get16(s, RUN + GROUP)
+}
+
+pub fn toklen_of(s: &[u8], w: usize) -> u16
+    requires { length s.now ≡ record_size w }
+    ensures { result ≡ (decode_peer w s.now).run.toklen }
+{
+    octets::get16(s, RUN + TOKLEN)
+}
+
+pub fn t0_of(s: &[u8], w: usize) -> u32
+    requires { length s.now ≡ record_size w }
+    ensures { result ≡ (decode_peer w s.now).run.t0 }
+{
+    octets::get32(s, RUN + T0)
+}
 
 // One record's octets, and the width that its table stores a commit with.
 #[derive(Clone, Copy)]
@@ -27,43 +77,43 @@ impl<'a> Record<'a> {
     pub fn state(&self) -> u8
         ensures { result ≡ (peer_in self.now).run.state }
     {
-        octets::get8(self.octets, RUN + STATE)
+        state_of(self.octets, self.width)
     }
 
     pub fn sync(&self) -> u8
         ensures { result ≡ (peer_in self.now).run.sync }
     {
-        octets::get8(self.octets, RUN + SYNC)
+        sync_of(self.octets, self.width)
     }
 
     pub fn rejected(&self) -> u8
         ensures { result ≡ (peer_in self.now).run.rejected }
     {
-        octets::get8(self.octets, RUN + REJECTED)
+        rejected_of(self.octets, self.width)
     }
 
     pub fn sc(&self) -> u16
         ensures { result ≡ (peer_in self.now).run.sc }
     {
-        octets::get16(self.octets, RUN + SC)
+        sc_of(self.octets, self.width)
     }
 
     pub fn group(&self) -> u16
         ensures { result ≡ (peer_in self.now).run.group }
     {
-        octets::get16(self.octets, RUN + GROUP)
+        group_of(self.octets, self.width)
     }
 
     pub fn toklen(&self) -> u16
         ensures { result ≡ (peer_in self.now).run.toklen }
     {
-        octets::get16(self.octets, RUN + TOKLEN)
+        toklen_of(self.octets, self.width)
     }
 
     pub fn t0(&self) -> u32
         ensures { result ≡ (peer_in self.now).run.t0 }
     {
-        octets::get32(self.octets, RUN + T0)
+        t0_of(self.octets, self.width)
     }
 
     // Its own commit and its token, where they lie.

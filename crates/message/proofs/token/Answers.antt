@@ -3,7 +3,7 @@ use native.Mathlib.Omega.{arith}
 use Rattle.message.specs.View.{stored_token}
 use Rattle.message.proofs.Laws.{token-short}
 use borrow.Author.Rules.{rules}
-use Rattle.message.proofs.received.Heard.token.Goals as goal
+use Rattle.message.proofs.token.Goals as goal
 
 pub filled-requires : goal.filled-requires
 filled-requires c = (omega arith, token-short _ _ _ (search rules) c.token_of.ensures)
