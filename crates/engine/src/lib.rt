@@ -266,12 +266,7 @@ fn hear_outside(heard: &Heard) -> Result<Answer, Refusal>
 }
 
 // A frame that causes 2 to 7 do not refuse. Cause 9.
-fn hear(
-    t: &mut [u8],
-    h: Header,
-    f: Option<usize>,
-    heard: &Heard,
-) -> Result<Answer, Refusal>
+fn hear(t: &mut [u8], h: Header, f: Option<usize>, heard: &Heard) -> Result<Answer, Refusal>
     requires { Held t.old h f × (Lists heard.now.stock h × Brought heard.now.given h) }
     ensures { let d = heard.now in let T = decode_table t.old in
         Leaves (told result) t.new (finishes t.old f (on_frame (terms_of T f) (call_in d) (look_by T f) (message_in d)) d.given.address) }

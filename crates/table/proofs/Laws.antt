@@ -14,7 +14,7 @@ use borrow.Author.Tests.{eqb-true, leb-true, eq-eqb, le-leb, lt-leb, ne_eqb, not
 use Rattle.octets.specs.Octets.{num, same_address}
 use Rattle.std.specs.Prelude.{if◌then◌else◌, Option, Some, None, Result, Ok, Err}
 use Rattle.octets.specs.Scan.{all_below, count_below, first_below, last_below, bit}
-use Rattle.octets.proofs.Scan.{cases, clash, and_left, and_right, and_both, all_true, all_of, first-at, first-nothing, last-at, count-but, count-le, bit_le}
+use Rattle.octets.proofs.Scan.{cases, and_left, and_right, and_both, all_true, all_of, first-at, first-nothing, last-at, count-but, count-le, bit_le}
 use Rattle.record.specs.declared.Peer.{Peer}
 use Rattle.record.specs.declared.Counts.{Counts}
 use Rattle.record.specs.declared.Header.{Header}

@@ -73,7 +73,13 @@ fn write_record_confirm(peer: &Record, value: &[u8], out: &mut [u8]) -> Result<u
 }
 
 // Which of a record's frames is wanted.
-fn write_peer(groups: &[u16], peer: &Record, sequence: u16, value: &[u8], out: &mut [u8]) -> Result<usize, Refusal>
+fn write_peer(
+    groups: &[u16],
+    peer: &Record,
+    sequence: u16,
+    value: &[u8],
+    out: &mut [u8],
+) -> Result<usize, Refusal>
     requires { Bounded (peer_in peer.now) peer.now.width }
     ensures { Writes (record_body groups.now (peer_in peer.now) sequence value.now) out.old out.new result }
 {

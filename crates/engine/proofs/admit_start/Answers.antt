@@ -11,7 +11,7 @@ listed-requires c = few-counted c.args.h (held-header _ _ _ c.requires)
 
 pub fresh_ok-requires : goal.fresh_ok-requires
 fresh_ok-requires c =
-    let three : length c.args.h.settings.groups ≡ 3 = search rules in 
+    let three : length c.args.h.settings.groups ≡ 3 = search rules in
     listed-asks _ _ _ c.args.fresh.now c.listed.ensures (stock-asks c.args.h (held-header _ _ _ c.requires) three _ c.width_of-w.ensures.0 c.width_of-w.ensures.1)
 
 pub returns-then-not-fresh_ok : goal.returns-then-not-fresh_ok
