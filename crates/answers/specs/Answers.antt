@@ -1,4 +1,4 @@
--- What calls answer: the numbered refusals, the answer, where a record is worked on, and the end of every call.
+-- What calls answer: the report of a call, where a record is worked on, and the end of every call.
 use Rattle.std.specs.Prelude.{◌≡◌, true, List, ℕ, ◌<◌, replicate, if◌then◌else◌, Option, Some, None, Result, Ok, Err}
 use Rattle.rules.specs.declared.Event.{Event}
 use Rattle.rules.specs.declared.Event.TheVariants as event
